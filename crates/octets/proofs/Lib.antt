@@ -1,0 +1,6 @@
+pub mod Classes
+pub mod Equal
+pub mod Kept
+pub mod Options
+pub mod Table
+pub mod Tests
