@@ -1,0 +1,5 @@
+pub mod Body
+pub mod Cutting
+pub mod Examples
+pub mod Request
+pub mod Values

@@ -1,0 +1,128 @@
+-- Readable requests (document 01, "Readable requests"): what is read from a request's bytes, or none where it is unreadable.
+use mathlib.Core.Bool.{Bool, true, false, not, _&&_, _||_}
+use mathlib.Core.Option.{Option, none, some}
+use Prim.Native.Nat.{ℕ}
+use mathlib.Core.List.{List, [], _∷_, _++_}
+use lib.ListN.{length}
+use lib.Dec.{leb, eqb}
+use Rattle.octets.specs.Lists.{text, every, some-of, only, empty, pick, peek}
+use Rattle.octets.specs.Option.{_>>=_, holds}
+use Rattle.octets.specs.Bytes.{within, same-any-case, token, white, uri-byte}
+use Rattle.request.specs.Cutting.{first-cut, cut-by, cut-at}
+use Rattle.request.specs.Values.{trim-right, reduced, values-of}
+
+-- a field: its name, and the values it is cut into
+pub record Field : Type 0 where
+  pub name : List ℕ
+  pub values : List (List ℕ)
+
+-- what the answers need of a request
+pub record Request : Type 0 where
+  pub method : List ℕ
+  pub uri : List ℕ
+  pub fields : List Field
+  pub body : List ℕ
+
+-- ---- the head
+
+-- "In the head, CR and LF stand only as pairs": a byte is LF exactly where the one before it is CR
+abbrev pub agree : Bool → Bool → Bool
+agree true b = b
+agree false b = not b
+
+-- the byte before, and the rest
+unfoldable pub paired : ℕ → List ℕ → Bool
+paired before [] = not (eqb before 13)
+paired before (b ∷ s) = agree (eqb before 13) (eqb b 10) && paired b s
+
+-- "other bytes below 32 except HTAB, and 127, are refused"
+abbrev pub head-byte : ℕ → Bool
+head-byte b = within 32 126 b || leb 128 b || some-of (eqb b) (9 ∷ 10 ∷ 13 ∷ [])
+
+-- the lines of a head in which CR and LF stand only as pairs
+abbrev pub head-lines : List ℕ → List (List ℕ)
+head-lines h = cut-at 10 (only (λ b. not (eqb b 13)) h)
+
+-- ---- the start line
+
+-- its method and its URI
+pub record Start : Type 0 where
+  pub method : List ℕ
+  pub uri : List ℕ
+
+-- "method token, one SP, URI of one or more bytes 33..126, one SP, `SIP/2.0` in any case": three parts between single SPs
+abbrev pub three : List (List ℕ) → Option Start
+three [] = none
+three (m ∷ []) = none
+three (m ∷ u ∷ []) = none
+three (m ∷ u ∷ v ∷ []) = do
+  _ ← holds (token m && not (empty u) && every uri-byte u && same-any-case v (text "SIP/2.0"))
+  some (record { method = m; uri = u })
+three (m ∷ u ∷ v ∷ w ∷ l) = none
+
+-- cut at each SP
+abbrev pub start-line : List ℕ → Option Start
+start-line l = three (cut-at 32 l)
+
+-- ---- fields
+
+-- "A line that starts with SP or HTAB continues a field"
+abbrev pub continues : List (List ℕ) → Bool
+continues [] = false
+continues (l ∷ ls) = white (peek l)
+
+-- a field's line with the lines that continue it, the folds (CR LF) between them kept
+abbrev pub attach : List ℕ → List (List ℕ) → List (List ℕ)
+attach l [] = l ∷ []
+attach l (x ∷ xs) = (l ++ (13 ∷ 10 ∷ x)) ∷ xs
+
+-- each field with its folds
+unfoldable pub whole-fields : List (List ℕ) → List (List ℕ)
+whole-fields [] = []
+whole-fields (l ∷ ls) = let later : List (List ℕ) = whole-fields ls in pick (continues ls) (attach l later) (l ∷ later)
+
+-- "Names are taken as written."
+abbrev pub name-as-matched : List ℕ → List ℕ
+name-as-matched written = written
+
+-- "name token, any SP or HTAB, colon (these on one line), value": a fold before the colon would stand in the name
+abbrev pub field : List ℕ → Option Field
+field l = do
+  c ← first-cut (text ":") l
+  let written : List ℕ = trim-right (c .before)
+  let name : List ℕ = name-as-matched written
+  _ ← holds (token written)
+  some (record { name = name; values = values-of name (reduced (c .after)) })
+
+-- every one of them must be a field
+unfoldable pub all-fields : List (List ℕ) → Option (List Field)
+unfolding first-cut trim-right reduced values-of
+all-fields [] = some []
+all-fields (l ∷ ls) = do
+  f ← field l
+  fs ← all-fields ls
+  some (f ∷ fs)
+
+-- ---- the request
+
+-- the start line, and the lines after it: "none [that continues] may follow the start line directly"
+abbrev pub head : List (List ℕ) → List ℕ → Option Request
+head [] body = none
+head (l ∷ ls) body = do
+  s ← start-line l
+  _ ← holds (not (continues ls))
+  fs ← all-fields (whole-fields ls)
+  some (record { method = s .method; uri = s .uri; fields = fs; body = body })
+
+-- CR LF CR LF
+abbrev pub empty-line : List ℕ
+empty-line = 13 ∷ 10 ∷ 13 ∷ 10 ∷ []
+
+-- "At most 65,535 bytes. The head runs to the first CR LF CR LF, which must exist; the body is all after it"
+unfoldable pub read-request : List ℕ → Option Request
+unfolding first-cut cut-by paired whole-fields all-fields
+read-request s = do
+  _ ← holds (leb (length s) 65535)
+  c ← first-cut empty-line s
+  _ ← holds (every head-byte (c .before) && paired 0 (c .before))
+  head (head-lines (c .before)) (c .after)
