@@ -1,4 +1,5 @@
 pub mod Classes
+pub mod Each
 pub mod Equal
 pub mod Kept
 pub mod Options

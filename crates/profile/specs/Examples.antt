@@ -1,0 +1,174 @@
+-- Worked images: document 01's two, and a fault at each place that can be got wrong. One list, one claim.
+use mathlib.Core.Bool.{Bool, true, false, not, _&&_}
+use Prim.Native.Nat.{ℕ, zero, suc, _/_, _%_}
+use Prim.Native.String.{String}
+use mathlib.Core.List.{List, [], _∷_, _++_}
+use lib.ListN.{length}
+use lib.Dec.{T, eqb}
+use Rattle.octets.specs.Lists.{text, every}
+use Rattle.profile.specs.Image.{Profile, Judged, accepted, refused}
+use Rattle.profile.specs.Judging.{judge}
+use Rattle.profile.specs.Lookups.{server, information}
+use Rattle.profile.specs.declared.Lookup.{Lookup}
+
+-- ---- writing images
+
+-- "Integers are big-endian"
+abbrev pub two : ℕ → List ℕ
+two n = n / 256 % 256 ∷ n % 256 ∷ []
+
+-- a string with its length
+abbrev pub string : String → List ℕ
+string s = two (length (text s)) ++ text s
+
+-- negated, kind, first, second, no registration set
+abbrev pub row : ℕ → ℕ → ℕ → ℕ → List ℕ
+row negated kind first second = negated ∷ kind ∷ two first ++ two second ++ (0 ∷ [])
+
+-- row, group
+abbrev pub membership : ℕ → ℕ → List ℕ
+membership r g = two r ++ two g
+
+-- a priority below 256, part absent, the form, first row, row count, server string, default handling, no information
+abbrev pub criterion : ℕ → ℕ → ℕ → ℕ → ℕ → ℕ → List ℕ
+criterion priority form first count server handling =
+    (0 ∷ 0 ∷ 0 ∷ priority ∷ 2 ∷ form ∷ []) ++ two first ++ two count ++ two server ++ (handling ∷ []) ++ two 65535
+
+-- the empty profile of document 01
+abbrev pub empty-profile : List ℕ
+empty-profile = 0x01 ∷ 0x00 ∷ 0x00 ∷ 0x00 ∷ 0x00 ∷ 0x00 ∷ 0x00 ∷ 0x00 ∷ 0x00 ∷ []
+
+-- "One criterion, priority 5, no trigger, server `sip:a`, terminated, is whole"
+abbrev pub one-criterion : List ℕ
+one-criterion =
+    0x01 ∷ 0x00 ∷ 0x01 ∷ 0x00 ∷ 0x05 ∷ 0x73 ∷ 0x69 ∷ 0x70 ∷ 0x3A ∷ 0x61 ∷ 0x00 ∷ 0x00 ∷ 0x00 ∷ 0x00 ∷ 0x00 ∷ 0x01
+    ∷ 0x00 ∷ 0x00 ∷ 0x00 ∷ 0x05 ∷ 0x02 ∷ 0x02 ∷ 0x00 ∷ 0x00 ∷ 0x00 ∷ 0x00 ∷ 0x00 ∷ 0x00 ∷ 0x01 ∷ 0xFF ∷ 0xFF ∷ []
+
+-- strings `A`, `[` (no pattern), the empty one, `a b` (no token): up to place 16, where the row count stands
+abbrev strings : List ℕ
+strings = 1 ∷ two 4 ++ string "A" ++ string "[" ++ string "" ++ string "a b"
+
+-- with one row, from 18 on
+abbrev with-row : List ℕ → List ℕ
+with-row r = strings ++ two 1 ++ r
+
+-- Method `A`
+abbrev a-row : List ℕ
+a-row = row 0 1 0 65535
+
+-- two such rows, from 18 and 25 on, and the memberships from 34 on
+abbrev with-members : ℕ → List ℕ → List ℕ
+with-members n m = strings ++ two 2 ++ a-row ++ a-row ++ two n ++ m
+
+-- one row with its membership, and the criteria from 33 on
+abbrev with-criteria : ℕ → List ℕ → List ℕ
+with-criteria n c = with-row a-row ++ two 1 ++ membership 0 0 ++ two n ++ c
+
+-- groups 0 to n - 1 of row 0
+abbrev groups : ℕ → List ℕ
+groups zero = []
+groups (suc n) = groups n ++ membership 0 n
+
+-- so many zeros
+abbrev zeros : ℕ → List ℕ
+zeros zero = []
+zeros (suc n) = 0 ∷ zeros n
+
+-- ---- the list
+
+-- accepted; a fault's number and place; a server's start and length; information's presence, start and length; no such criterion
+pub data Example : Type 0 where
+  is-accepted : List ℕ → Example
+  fault-at : ℕ → ℕ → List ℕ → Example
+  serves : List ℕ → ℕ → ℕ → ℕ → Example
+  informs : List ℕ → ℕ → Bool → ℕ → ℕ → Example
+  no-such : List ℕ → ℕ → Example
+
+abbrev fine : Judged → Bool
+fine (accepted p) = true
+fine (refused n place) = false
+
+abbrev faulty : Judged → ℕ → ℕ → Bool
+faulty (accepted p) n place = false
+faulty (refused m at) n place = eqb m n && eqb at place
+
+abbrev agrees : Bool → Bool → Bool
+agrees true b = b
+agrees false b = not b
+
+abbrev stands : Lookup → Bool → ℕ → ℕ → Bool
+stands l present start len = eqb (l .refusal) 0 && agrees present (l .present) && eqb (l .start) start && eqb (l .length) len
+
+unfoldable pub right : Example → Bool
+unfolding judge server information
+right (is-accepted s) = fine (judge s)
+right (fault-at n place s) = faulty (judge s) n place
+right (serves s i start len) = stands (server s i) true start len
+right (informs s i present start len) = stands (information s i) present start len
+right (no-such s i) = eqb (server s i .refusal) 13 && eqb (information s i .refusal) 13
+
+unfoldable pub examples : List Example
+examples =
+    is-accepted empty-profile
+    ∷ is-accepted one-criterion
+    -- number 1 before all; number 2 at the image's length
+    ∷ fault-at 1 0 (zeros 32769)
+    ∷ fault-at 4 0 (zeros 32768)
+    ∷ fault-at 2 0 []
+    ∷ fault-at 2 1 (1 ∷ [])
+    ∷ fault-at 4 0 (2 ∷ [])
+    -- strings
+    ∷ fault-at 4 1 (1 ∷ two 1025)
+    ∷ fault-at 4 3 (1 ∷ two 1 ++ two 1025)
+    ∷ fault-at 2 6 (1 ∷ two 1 ++ two 5 ++ text "a")
+    -- rows: each field as soon as it is whole
+    ∷ fault-at 4 18 (with-row (9 ∷ []))
+    ∷ fault-at 4 19 (with-row (0 ∷ 5 ∷ []))
+    ∷ fault-at 2 21 (with-row (0 ∷ 1 ∷ 0 ∷ []))
+    ∷ fault-at 4 20 (with-row (row 0 0 4 65535))
+    ∷ fault-at 4 20 (with-row (row 0 0 65535 65535))
+    ∷ fault-at 5 20 (with-row (row 0 0 2 65535))
+    ∷ fault-at 5 20 (with-row (row 0 1 3 65535))
+    ∷ fault-at 5 20 (with-row (row 0 2 1 65535))
+    ∷ fault-at 5 20 (with-row (row 0 4 2 65535))
+    ∷ fault-at 4 20 (with-row (row 0 3 4 65535))
+    ∷ fault-at 5 20 (with-row (row 0 1 3 0))
+    ∷ fault-at 4 22 (with-row (row 0 1 0 0))
+    ∷ fault-at 4 22 (with-row (row 0 2 0 9))
+    ∷ fault-at 5 22 (with-row (row 0 2 0 1))
+    ∷ fault-at 4 24 (with-row (0 ∷ 1 ∷ two 0 ++ two 65535 ++ (7 ∷ [])))
+    -- memberships: the row at the row, the order at the group, one lacking or a ninth after the section
+    ∷ fault-at 4 34 (with-members 1 (two 2))
+    ∷ fault-at 4 38 (with-members 2 (membership 1 0 ++ membership 0 0))
+    ∷ fault-at 2 40 (with-members 2 (membership 1 0 ++ two 0))
+    ∷ fault-at 4 38 (with-members 3 (membership 0 0 ++ membership 0 0))
+    ∷ fault-at 4 25 (with-members 1 (membership 0 0))
+    ∷ is-accepted (with-row a-row ++ two 8 ++ groups 8 ++ two 0)
+    ∷ fault-at 4 18 (with-row a-row ++ two 9 ++ groups 9 ++ two 0)
+    -- criteria
+    ∷ fault-at 4 31 (with-criteria 65 [])
+    ∷ is-accepted (with-criteria 1 (criterion 5 0 0 1 0 2))
+    ∷ fault-at 4 41 (with-criteria 1 (criterion 5 0 1 1 0 0))
+    ∷ fault-at 4 41 (with-criteria 1 (criterion 5 1 0 0 0 0))
+    ∷ fault-at 4 39 (with-criteria 1 (criterion 5 2 1 0 0 0))
+    ∷ fault-at 4 41 (with-criteria 1 (criterion 5 2 0 1 0 0))
+    ∷ fault-at 4 43 (with-criteria 1 (criterion 5 2 0 0 65535 0))
+    ∷ fault-at 5 43 (with-criteria 1 (criterion 5 2 0 0 2 0))
+    ∷ fault-at 4 45 (with-criteria 1 (criterion 5 2 0 0 0 3))
+    -- a repeated priority, at the later one and before its other fields
+    ∷ fault-at 6 48 (with-criteria 2 (criterion 5 2 0 0 0 0 ++ criterion 5 2 0 0 0 0))
+    ∷ fault-at 6 48 (with-criteria 3 (criterion 5 2 0 0 0 0 ++ criterion 5 9 0 0 0 0))
+    ∷ fault-at 2 51 (with-criteria 2 (criterion 5 2 0 0 0 0 ++ (0 ∷ 0 ∷ 0 ∷ [])))
+    -- nothing follows
+    ∷ fault-at 3 33 (with-criteria 0 (7 ∷ 7 ∷ []))
+    -- lookups: the part of the image; information that is absent, and present but empty
+    ∷ serves one-criterion 0 5 5
+    ∷ no-such one-criterion 1
+    ∷ informs one-criterion 0 false 0 0
+    ∷ informs (with-criteria 1 ((0 ∷ 0 ∷ 0 ∷ 5 ∷ 2 ∷ 2 ∷ []) ++ two 0 ++ two 0 ++ two 0 ++ (0 ∷ []) ++ two 2)) 0 true 11 0
+    ∷ []
+
+-- every example is right
+pub all-right : T (every right examples)
+unfolding right examples
+all-right = tt
