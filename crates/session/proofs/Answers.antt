@@ -1,0 +1,83 @@
+-- The laws by which the session's functions are proved, one for each answer.
+use mathlib.Core.Bool.{Bool, true, false, not, _&&_, _||_}
+use mathlib.Core.Path.{_≡_, refl, sym, ap, _∙_}
+use Prim.Native.Nat.{ℕ, _≤_, _<_}
+use lib.Dec.{leb, ltb, eqb}
+use borrow.Author.Tests.{lt-leb, le-leb, lt-ltb, eq-eqb, ne-eqb, not-true, not-false}
+use Rattle.octets.specs.Lists.{pick}
+use Rattle.session.specs.Session.{nothing-yet, some-yet, by-forwarded, possible, fresh, unopened, open-session, with-state, goes, stays, after-report, report-session, ready, waiting, released, ended, Opens, Reports}
+use Rattle.session.specs.declared.Session.{Session}
+use Rattle.session.specs.declared.Opened.{Opened}
+use Rattle.session.specs.declared.Reported.{Reported}
+
+-- ---- which records a session can have
+
+module _ (x : Session) where
+  pub case-high : 3 < x .case → false ≡ possible x
+  unfolding possible
+  case-high h = sym (ap (λ (b : Bool). b && by-forwarded (x .forwarded) x) (lt-leb (x .case) 3 h))
+
+  module _ (h : x .case ≤ 3) where
+    case-low : by-forwarded (x .forwarded) x ≡ possible x
+    unfolding possible
+    case-low = sym (ap (λ (b : Bool). b && by-forwarded (x .forwarded) x) (le-leb (x .case) 3 h))
+
+    pub none-yet : x .forwarded ≡ 0 → nothing-yet x ≡ possible x
+    none-yet e = sym (ap (λ (b : Bool). pick b (nothing-yet x) (eqb (x .forwarded) 1 && some-yet x)) (eq-eqb (x .forwarded) 0 e)) ∙ case-low
+
+    pub one-yet : x .last < 4294967296 → (x .forwarded ≡ 0 → ⊥)
+        → (eqb (x .forwarded) 1 && (leb (x .handling) 1 && leb (x .state) 4 && (not (eqb (x .state) 3) || eqb (x .handling) 1))) ≡ possible x
+    one-yet l e =
+        sym (ap (λ (b : Bool). eqb (x .forwarded) 1 && (b && leb (x .handling) 1 && leb (x .state) 4 && (not (eqb (x .state) 3) || eqb (x .handling) 1))) (lt-ltb (x .last) 4294967296 l))
+        ∙ sym (ap (λ (b : Bool). pick b (nothing-yet x) (eqb (x .forwarded) 1 && some-yet x)) (ne-eqb (x .forwarded) 0 e)) ∙ case-low
+
+-- ---- opening
+
+pub opened-yes : (k : ℕ) → k ≤ 3 → Opens k (record { refusal = 0; session = fresh k })
+unfolding open-session
+opened-yes k h = record { answer = rw (le-leb k 3 h) }
+
+pub opened-no : (k : ℕ) → 3 < k → Opens k (record { refusal = 8; session = unopened })
+unfolding open-session
+opened-no k h = record { answer = rw (lt-leb k 3 h) }
+
+-- ---- report
+
+module _ (x : Session) (n : ℕ) (r : Bool) (e : r ≡ possible x) where
+  pub no-such : not r ≡ true → Reports x n (stays x 10)
+  unfolding report-session
+  no-such h = record { answer = rw (sym e ∙ not-true r h) }
+
+  module _ (h : not r ≡ false) where
+    is-possible : possible x ≡ true
+    is-possible = sym e ∙ not-false r h
+
+    pub not-waiting : (x .state ≡ 1 → ⊥) → Reports x n (stays x 10)
+    unfolding report-session
+    not-waiting k = record { answer = rw (is-possible, ne-eqb (x .state) 1 k) }
+
+    module _ (w : x .state ≡ 1) where
+      waits : after-report n x ≡ report-session x n
+      unfolding report-session
+      waits = rw (is-possible, eq-eqb (x .state) 1 w)
+
+      -- the session y that a moved one is, once a test is decided
+      moved : (y : Session) (s : ℕ) → y ≡ with-state x s → after-report n x ≡ goes x s → Reports x n (record { refusal = 0; session = y })
+      moved y s f d = record { answer = ap (λ (z : Session). record { refusal = 0; session = z }) f ∙ sym d ∙ waits }
+
+      pub returned : (y : Session) → y ≡ with-state x 0 → n ≡ 0 → Reports x n (record { refusal = 0; session = y })
+      returned y f e0 = moved y 0 f (ap (λ (k : ℕ). after-report k x) e0)
+
+      module _ (n0 : n ≡ 0 → ⊥) where
+        pub continued : (y : Session) → y ≡ with-state x 0 → n ≡ 1 → x .handling ≡ 0 → Reports x n (record { refusal = 0; session = y })
+        continued y f e1 d = moved y 0 f (ap (λ (k : ℕ). after-report k x) e1 ∙ ap (λ (b : Bool). goes x (pick b ready released)) (eq-eqb (x .handling) 0 d))
+
+        pub terminated : (y : Session) → y ≡ with-state x 3 → n ≡ 1 → (x .handling ≡ 0 → ⊥) → Reports x n (record { refusal = 0; session = y })
+        terminated y f e1 d = moved y 3 f (ap (λ (k : ℕ). after-report k x) e1 ∙ ap (λ (b : Bool). goes x (pick b ready released)) (ne-eqb (x .handling) 0 d))
+
+        module _ (n1 : n ≡ 1 → ⊥) where
+          pub final : (y : Session) → y ≡ with-state x 4 → n ≡ 2 → Reports x n (record { refusal = 0; session = y })
+          final y f e2 = moved y 4 f (ap (λ (k : ℕ). after-report k x) e2)
+
+          pub no-report : (n ≡ 2 → ⊥) → Reports x n (stays x 8)
+          no-report n2 = record { answer = sym (rw (ne-eqb n 0 n0, ne-eqb n 1 n1, ne-eqb n 2 n2)) ∙ waits }
