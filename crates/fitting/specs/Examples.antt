@@ -1,0 +1,61 @@
+-- Worked triggers over rows that fit or not, and the parts against the cases. One list, one claim.
+use mathlib.Core.Bool.{Bool, true, false, not, _&&_}
+use Prim.Native.Nat.{ℕ}
+use mathlib.Core.List.{List, [], _∷_}
+use lib.Dec.{T, eqb}
+use Rattle.octets.specs.Lists.{every, some-of}
+use Rattle.profile.specs.Image.{Member}
+use Rattle.fitting.specs.Fitting.{by-form, part-fits}
+
+-- row in group
+abbrev in-group : ℕ → ℕ → Member
+in-group r g = record { row = r; group = g }
+
+-- form, memberships, the rows that fit, whether the trigger does; part, case, whether it fits
+pub data Example : Type 0 where
+  trigger : ℕ → List Member → List ℕ → Bool → Example
+  part : ℕ → ℕ → Bool → Example
+
+abbrev agrees : Bool → Bool → Bool
+agrees true b = b
+agrees false b = not b
+
+unfoldable pub right : Example → Bool
+right (trigger form ms fitting expected) = agrees expected (by-form form (λ m. some-of (eqb (m .row)) fitting) ms)
+right (part p case expected) = agrees expected (part-fits p case)
+
+-- rows 0 and 1 in group 3, rows 1 and 2 in group 4
+abbrev groups : List Member
+groups = in-group 0 3 ∷ in-group 1 3 ∷ in-group 1 4 ∷ in-group 2 4 ∷ []
+
+unfoldable pub examples : List Example
+examples =
+    -- DNF: in some group all do
+    trigger 0 groups (0 ∷ 1 ∷ []) true
+    ∷ trigger 0 groups (1 ∷ 2 ∷ []) true
+    ∷ trigger 0 groups (0 ∷ 2 ∷ []) false
+    ∷ trigger 0 groups [] false
+    -- CNF: in every group at least one row fits
+    ∷ trigger 1 groups (1 ∷ []) true
+    ∷ trigger 1 groups (0 ∷ 2 ∷ []) true
+    ∷ trigger 1 groups (0 ∷ []) false
+    ∷ trigger 1 groups [] false
+    -- no trigger
+    ∷ trigger 2 [] [] true
+    -- registered, unregistered, absent
+    ∷ part 0 0 true
+    ∷ part 0 1 true
+    ∷ part 0 2 false
+    ∷ part 0 3 false
+    ∷ part 1 0 false
+    ∷ part 1 1 false
+    ∷ part 1 2 true
+    ∷ part 1 3 true
+    ∷ part 2 0 true
+    ∷ part 2 3 true
+    ∷ []
+
+-- every example is right
+pub all-right : T (every right examples)
+unfolding right examples
+all-right = tt

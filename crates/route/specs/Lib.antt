@@ -1,0 +1,4 @@
+pub mod Advance
+pub mod Examples
+pub mod Listing
+pub mod Order
