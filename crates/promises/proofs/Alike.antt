@@ -1,0 +1,193 @@
+-- Demand 3 for one call: answers depend on no more of a request than its profile looks at.
+use mathlib.Core.Bool.{Bool, true, false, not, _&&_, _||_}
+use mathlib.Core.Option.{Option, none, some}
+use mathlib.Core.Path.{_≡_, refl, sym, ap, ap₂, _∙_, subst, fun-ext}
+use Prim.Native.Nat.{ℕ, zero, suc, _+_}
+use mathlib.Core.List.{List, [], _∷_}
+use lib.ListN.{length, getElem?}
+use lib.Dec.{T, leb, eqb}
+use Rattle.octets.specs.Lists.{pick, some-of, total, same}
+use Rattle.octets.proofs.Tests.{T-of, test-cases, or-left, or-right}
+use Rattle.pattern.specs.Pattern.{Pattern}
+use Rattle.pattern.specs.Matching.{written-matches, name-matches}
+use Rattle.profile.specs.Image.{Test, request-uri, method, header, session-case, description, Row, Member, Criterion, Profile, Judged, accepted}
+use Rattle.profile.specs.Judging.{judge}
+use Rattle.request.specs.Request.{Request, Field, read-request}
+use Rattle.request.specs.Body.{session-lines, request-lines}
+use Rattle.session.specs.Session.{possible, ready}
+use Rattle.session.specs.declared.Session.{Session}
+use Rattle.rows.specs.Rows.{Given, REGISTER, registration-fits, content-fits, field-fits, line-fits, test-fits, row-fits, content-trials, field-trials, line-trials, test-trials, row-trials}
+use Rattle.fitting.specs.Fitting.{memberships, fits-at, by-form, trigger-fits, criterion-fits, part-fits, trials-at, trials-from, criterion-trials}
+use Rattle.route.specs.Advance.{refuse, walk, walk-with, in-session, advance-read, advance-judged, advance}
+use Rattle.route.specs.Listing.{Listing, refuse-list, fill, fill-with, list-read, list-judged, listing}
+use Rattle.route.specs.declared.Advanced.{Advanced}
+use Rattle.promises.specs.Agreement.{header-meets, describes, any-header, any-description, AgreeFields, none-left, field-and, Agree}
+use Rattle.promises.proofs.StartLine.{start-same}
+
+-- ---- what must agree, of the requests as they are read
+
+record Alike (rows : List Row) (q r : Request) : Type 0 where
+  same-method : q .method ≡ r .method
+  same-uri : q .uri ≡ r .uri
+  same-fields : AgreeFields rows (q .fields) (r .fields)
+  same-body : T (any-description rows) → q .body ≡ r .body
+
+-- ---- a row
+
+fields-weaken : {x : Row} {rows : List Row} {fs gs : List Field} → AgreeFields (x ∷ rows) fs gs → AgreeFields rows fs gs
+fields-weaken none-left = none-left
+fields-weaken {x} {rows} (field-and {f = f} n v rest) =
+    field-and n (λ t. v (or-right (header-meets (x .test) (f .name)) (any-header rows (f .name)) t)) (fields-weaken rest)
+
+weaken : {x : Row} {rows : List Row} {q r : Request} → Alike (x ∷ rows) q r → Alike rows q r
+weaken {x} {rows} a = record {
+  same-method = a .same-method;
+  same-uri = a .same-uri;
+  same-fields = fields-weaken (a .same-fields);
+  same-body = λ t. a .same-body (or-right (describes (x .test)) (any-description rows) t);
+}
+
+-- the fields, seen by a row whose header is h
+data SeenFields (h : Pattern) : List Field → List Field → Type 0 where
+  seen-none : SeenFields h [] []
+  seen-and : {f g : Field} {fs gs : List Field} → f .name ≡ g .name → (T (name-matches h (f .name)) → f .values ≡ g .values)
+      → SeenFields h fs gs → SeenFields h (f ∷ fs) (g ∷ gs)
+
+seen : (h : Pattern) (rows : List Row) {fs gs : List Field} → ((name : List ℕ) → T (name-matches h name) → T (any-header rows name))
+    → AgreeFields rows fs gs → SeenFields h fs gs
+seen h rows c none-left = seen-none
+seen h rows c (field-and {f = f} n v rest) = seen-and n (λ t. v (c (f .name) t)) (seen h rows c rest)
+
+one-field-fits : (h : Pattern) (c : Option Pattern) (f g : Field) → f .name ≡ g .name → (T (name-matches h (f .name)) → f .values ≡ g .values)
+    → field-fits h c f ≡ field-fits h c g
+one-field-fits h c f g n v =
+    test-cases (name-matches h (f .name))
+    (λ e. ap₂ (λ (a : List ℕ) (b : List (List ℕ)). name-matches h a && content-fits c b) n (v (T-of e)))
+    (λ e. ap (λ (b : Bool). b && content-fits c (f .values)) e
+    ∙ ap (λ (b : Bool). b && content-fits c (g .values)) (sym e ∙ ap (name-matches h) n))
+
+fields-fit : (h : Pattern) (c : Option Pattern) {fs gs : List Field} → SeenFields h fs gs → some-of (field-fits h c) fs ≡ some-of (field-fits h c) gs
+fields-fit h c seen-none = refl
+fields-fit h c (seen-and {f = f} {g = g} n v rest) = ap₂ _||_ (one-field-fits h c f g n v) (fields-fit h c rest)
+
+one-field-trials : (h : Pattern) (c : Option Pattern) (f g : Field) → f .name ≡ g .name → (T (name-matches h (f .name)) → f .values ≡ g .values)
+    → content-trials c (name-matches h (f .name)) (length (f .values)) ≡ content-trials c (name-matches h (g .name)) (length (g .values))
+one-field-trials h none f g n v = refl
+one-field-trials h (some c) f g n v =
+    test-cases (name-matches h (f .name))
+    (λ e. ap₂ (λ (a : List ℕ) (b : List (List ℕ)). pick (name-matches h a) (length b) 0) n (v (T-of e)))
+    (λ e. ap (λ (b : Bool). pick b (length (f .values)) 0) e
+    ∙ ap (λ (b : Bool). pick b (length (g .values)) 0) (sym e ∙ ap (name-matches h) n))
+
+fields-trials : (h : Pattern) (c : Option Pattern) {fs gs : List Field} → SeenFields h fs gs
+    → total (field-trials h c) fs
+    ≡ total (field-trials h c) gs
+fields-trials h c seen-none = refl
+fields-trials h c (seen-and {f = f} {g = g} n v rest) = ap₂ (λ (a b : ℕ). 1 + a + b) (one-field-trials h c f g n v) (fields-trials h c rest)
+
+module _ (q r : Request) where
+  test-alike : (g : Given) (x : Row) (rows : List Row) (t : Test) → x .test ≡ t → Alike (x ∷ rows) q r → test-fits q g t ≡ test-fits r g t
+  unfolding test-fits request-lines
+  test-alike g x rows (request-uri u) e a = ap (same u) (a .same-uri)
+  test-alike g x rows (method m set) e a = ap (λ (k : List ℕ). same m k && registration-fits m set (g .registration)) (a .same-method)
+  test-alike g x rows (header h c) e a =
+      fields-fit h c (seen h (x ∷ rows)
+      (λ name t. or-left (header-meets (x .test) name) (any-header rows name) (subst (λ (k : Test). T (header-meets k name)) (sym e) t))
+      (a .same-fields))
+  test-alike g x rows (session-case k) e a = refl
+  test-alike g x rows (description h c) e a =
+      ap (λ (b : List ℕ). some-of (line-fits h c) (session-lines b))
+      (a .same-body (or-left (describes (x .test)) (any-description rows) (subst (λ (k : Test). T (describes k)) (sym e) tt)))
+
+  trials-alike : (x : Row) (rows : List Row) (t : Test) → x .test ≡ t → Alike (x ∷ rows) q r → test-trials q t ≡ test-trials r t
+  unfolding test-trials request-lines
+  trials-alike x rows (request-uri u) e a = refl
+  trials-alike x rows (method m set) e a = refl
+  trials-alike x rows (header h c) e a =
+      fields-trials h c (seen h (x ∷ rows)
+      (λ name t. or-left (header-meets (x .test) name) (any-header rows name) (subst (λ (k : Test). T (header-meets k name)) (sym e) t))
+      (a .same-fields))
+  trials-alike x rows (session-case k) e a = refl
+  trials-alike x rows (description h c) e a =
+      ap (λ (b : List ℕ). total (line-trials h c) (session-lines b))
+      (a .same-body (or-left (describes (x .test)) (any-description rows) (subst (λ (k : Test). T (describes k)) (sym e) tt)))
+
+  -- the row of any number
+  row-alike : (g : Given) (rows : List Row) (i : ℕ) → Alike rows q r → fits-at q g (getElem? rows i) ≡ fits-at r g (getElem? rows i)
+  unfolding row-fits
+  row-alike g [] i a = refl
+  row-alike g (x ∷ rows) zero a = ap (λ (b : Bool). pick (x .negated) (not b) b) (test-alike g x rows (x .test) refl a)
+  row-alike g (x ∷ rows) (suc i) a = row-alike g rows i (weaken a)
+
+  row-trials-alike : (rows : List Row) (i : ℕ) → Alike rows q r → trials-at q (getElem? rows i) ≡ trials-at r (getElem? rows i)
+  unfolding row-trials
+  row-trials-alike [] i a = refl
+  row-trials-alike (x ∷ rows) zero a = trials-alike x rows (x .test) refl a
+  row-trials-alike (x ∷ rows) (suc i) a = row-trials-alike rows i (weaken a)
+
+  -- ---- a criterion
+
+  rows-trials-alike : (rows : List Row) (first n : ℕ) → Alike rows q r → trials-from q rows first n ≡ trials-from r rows first n
+  unfolding trials-from
+  rows-trials-alike rows first zero a = refl
+  rows-trials-alike rows first (suc n) a = ap₂ _+_ (row-trials-alike rows first a) (rows-trials-alike rows (suc first) n a)
+
+  fits-alike : (g : Given) (p : Profile) → Alike (p .rows) q r → criterion-fits q g p ≡ criterion-fits r g p
+  unfolding criterion-fits trigger-fits
+  fits-alike g p a =
+      fun-ext (λ (c : Criterion).
+      ap (λ (f : Member → Bool). part-fits (c .part) (g .case) && by-form (c .form) f (memberships p c))
+      (fun-ext (λ (m : Member). row-alike g (p .rows) (m .row) a)))
+
+  criterion-trials-alike : (g : Given) (p : Profile) → Alike (p .rows) q r → criterion-trials q g p ≡ criterion-trials r g p
+  unfolding criterion-trials
+  criterion-trials-alike g p a =
+      fun-ext (λ (c : Criterion). ap (λ (n : ℕ). pick (part-fits (c .part) (g .case)) n 0) (rows-trials-alike (p .rows) (c .first) (c .count) a))
+
+  -- ---- the answers
+
+  walk-alike : (x : Session) (p : Profile) → Alike (p .rows) q r → walk x p q ≡ walk x p r
+  unfolding walk
+  walk-alike x p a = ap₂ (λ (f : Criterion → Bool) (t : Criterion → ℕ). walk-with f t x (p .criteria)) (fits-alike (in-session x) p a) (criterion-trials-alike (in-session x) p a)
+
+  fill-alike : (g : Given) (p : Profile) (places : List ℕ) → Alike (p .rows) q r → fill q g p places ≡ fill r g p places
+  unfolding fill
+  fill-alike g p places a = ap₂ (λ (f : Criterion → Bool) (t : Criterion → ℕ). fill-with f t (p .criteria) places) (fits-alike g p a) (criterion-trials-alike g p a)
+
+  advance-read-alike : (x : Session) (p : Profile) → Alike (p .rows) q r → advance-read x p (some q) ≡ advance-read x p (some r)
+  advance-read-alike x p a = ap₂ (λ (m : List ℕ) (w : Advanced). pick (same m REGISTER) (refuse x 11 0) w) (a .same-method) (walk-alike x p a)
+
+  list-read-alike : (g : Given) (p : Profile) (places : List ℕ) → Alike (p .rows) q r → list-read g p (some q) places ≡ list-read g p (some r) places
+  list-read-alike g p places a =
+      ap₂ (λ (m : List ℕ) (w : Listing).
+      pick (not (same m REGISTER)) (refuse-list places 11 0)
+      (pick (not (leb (g .case) 3)) (refuse-list places 8 0)
+      (pick (not (leb (g .registration) 2)) (refuse-list places 9 0) w)))
+      (a .same-method) (fill-alike g p places a)
+
+-- ---- the calls
+
+module _ (image a b : List ℕ) (h : Agree image a b) where
+  alike : Alike (h .profile .rows) (h .q) (h .r)
+  alike =
+      let s = start-same a b (h .q) (h .r) (h .reads-q) (h .reads-r) (h .same-start-line) in
+      record { same-method = s .0; same-uri = s .1; same-fields = h .same-fields; same-body = h .same-body }
+
+  pub advance-same : (x : Session) → advance x image a ≡ advance x image b
+  unfolding advance
+  advance-same x =
+      ap (λ (w : Advanced). pick (possible x && eqb (x .state) ready) w (refuse x 10 0))
+      (ap (λ (j : Judged). advance-judged x j a) (h .accepts)
+      ∙ ap (advance-read x (h .profile)) (h .reads-q)
+      ∙ advance-read-alike (h .q) (h .r) x (h .profile) alike
+      ∙ sym (ap (advance-read x (h .profile)) (h .reads-r))
+      ∙ sym (ap (λ (j : Judged). advance-judged x j b) (h .accepts)))
+
+  pub listing-same : (g : Given) (places : List ℕ) → listing g image a places ≡ listing g image b places
+  unfolding listing
+  listing-same g places =
+      ap (λ (j : Judged). list-judged g j a places) (h .accepts)
+      ∙ ap (λ (o : Option Request). list-read g (h .profile) o places) (h .reads-q)
+      ∙ list-read-alike (h .q) (h .r) g (h .profile) places alike
+      ∙ sym (ap (λ (o : Option Request). list-read g (h .profile) o places) (h .reads-r))
+      ∙ sym (ap (λ (j : Judged). list-judged g j b places) (h .accepts))

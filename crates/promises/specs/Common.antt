@@ -1,0 +1,85 @@
+-- "Ways it is commonly got wrong", each through whole images and requests: one list, one claim.
+use mathlib.Core.Bool.{Bool, true, false, _&&_}
+use Prim.Native.Nat.{ℕ}
+use Prim.Native.String.{String}
+use mathlib.Core.List.{List, [], _∷_, _++_}
+use lib.Dec.{T, eqb}
+use Rattle.octets.specs.Lists.{text, every}
+use Rattle.profile.specs.Examples.{two, string, row, membership, criterion}
+use Rattle.session.specs.Session.{fresh, report-session}
+use Rattle.session.specs.declared.Session.{Session}
+use Rattle.route.specs.Advance.{advance}
+use Rattle.route.specs.declared.Advanced.{Advanced}
+
+-- ---- the images
+
+-- one criterion, priority 7, over rows whose strings are From, joe, To; the server stands last
+abbrev of-rows : ℕ → ℕ → List ℕ → List ℕ → List ℕ
+of-rows form count rows members =
+    1 ∷ two 4 ++ string "From" ++ string "joe" ++ string "To" ++ string "sip:a"
+    ++ (two count ++ rows) ++ (two count ++ members)
+    ++ two 1 ++ criterion 7 form 0 count 3 0
+
+-- From with Content joe, as it is and negated; and DNF with From negated and To in one group
+abbrev from-joe : ℕ → List ℕ
+from-joe negated = of-rows 0 1 (row negated 2 0 1) (membership 0 0)
+
+abbrev from-not-to : List ℕ
+from-not-to = of-rows 0 2 (row 1 2 0 65535 ++ row 0 2 2 65535) (membership 0 0 ++ membership 1 0)
+
+-- two criteria with no trigger, of these priorities
+abbrev pair : ℕ → ℕ → List ℕ
+pair p r = 1 ∷ two 1 ++ string "sip:a" ++ two 0 ++ two 0 ++ two 2 ++ criterion p 2 0 0 0 0 ++ criterion r 2 0 0 0 0
+
+-- a criterion with no trigger, then one for From with Content joe
+abbrev first-then-joe : List ℕ
+first-then-joe =
+    1 ∷ two 3 ++ string "From" ++ string "joe" ++ string "sip:a"
+    ++ (two 1 ++ row 0 2 0 1) ++ (two 1 ++ membership 0 0)
+    ++ two 2 ++ criterion 1 2 0 0 2 0 ++ criterion 2 0 0 1 2 0
+
+-- ---- the list
+
+-- an image with the requests of the first advance and, once the server has returned it, of the second; and the outcome and
+-- number of the last of them
+pub data Example : Type 0 where
+  answers : List ℕ → String → ℕ → ℕ → Example
+  again : List ℕ → String → String → ℕ → ℕ → Example
+
+abbrev says : Advanced → ℕ → ℕ → Bool
+says a outcome number = eqb (a .outcome) outcome && eqb (a .number) number
+
+-- ready again after a first advance
+abbrev returned : List ℕ → String → Session
+returned image q = report-session (advance (fresh 0) image (text q) .session) 0 .session
+
+unfoldable pub right : Example → Bool
+unfolding advance report-session
+right (answers image q outcome number) = says (advance (fresh 0) image (text q)) outcome number
+right (again image q then outcome number) = says (advance (returned image q) image (text then)) outcome number
+
+unfoldable pub common : List Example
+common =
+    -- negating per value
+    answers (from-joe 1) "INVITE sip:b SIP/2.0\r\nFrom: joe, ann\r\n\r\n" 2 0
+    ∷ answers (from-joe 1) "INVITE sip:b SIP/2.0\r\nFrom: bob, ann\r\n\r\n" 1 0
+    -- large priority numbers first
+    ∷ answers (pair 9 5) "INVITE sip:b SIP/2.0\r\n\r\n" 1 1
+    ∷ again (pair 9 5) "INVITE sip:b SIP/2.0\r\n\r\n" "INVITE sip:b SIP/2.0\r\n\r\n" 1 0
+    ∷ again (pair 5 9) "INVITE sip:b SIP/2.0\r\n\r\n" "INVITE sip:b SIP/2.0\r\n\r\n" 1 1
+    -- name and content in two different fields
+    ∷ answers (from-joe 0) "INVITE sip:b SIP/2.0\r\nFrom: ann\r\nTo: joe\r\n\r\n" 2 0
+    -- anchoring
+    ∷ answers (from-joe 0) "INVITE sip:b SIP/2.0\r\nX-From-Id: a joe\r\n\r\n" 1 0
+    -- negating a group in place of a row
+    ∷ answers from-not-to "INVITE sip:b SIP/2.0\r\nTo: x\r\n\r\n" 1 0
+    ∷ answers from-not-to "INVITE sip:b SIP/2.0\r\n\r\n" 2 0
+    -- assessing the rest against the first request
+    ∷ again first-then-joe "INVITE sip:b SIP/2.0\r\n\r\n" "INVITE sip:b SIP/2.0\r\nFrom: joe\r\n\r\n" 1 1
+    ∷ again first-then-joe "INVITE sip:b SIP/2.0\r\nFrom: joe\r\n\r\n" "INVITE sip:b SIP/2.0\r\n\r\n" 2 0
+    ∷ []
+
+-- every example is right
+pub all-right : T (every right common)
+unfolding right common
+all-right = tt

@@ -1,0 +1,6 @@
+pub mod Agreement
+pub mod Calls
+pub mod Common
+pub mod Marked
+pub mod Reached
+pub mod Refusals

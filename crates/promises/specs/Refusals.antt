@@ -1,0 +1,107 @@
+-- "Refusal numbers": "Each is given exactly when its line holds and none earlier does." The order of each call as one list.
+use mathlib.Core.Bool.{Bool, true, false, not, _&&_}
+use mathlib.Core.Option.{Option, none, some}
+use mathlib.Core.Path.{_≡_}
+use Prim.Native.Nat.{ℕ}
+use mathlib.Core.List.{List, [], _∷_}
+use lib.ListN.{length, getElem?}
+use lib.Dec.{T, leb, eqb}
+use Rattle.octets.specs.Lists.{pick, same}
+use Rattle.profile.specs.Image.{Criterion, Profile, Judged, accepted, refused}
+use Rattle.profile.specs.Judging.{judge}
+use Rattle.request.specs.Request.{Request, read-request}
+use Rattle.session.specs.Session.{possible, ready, waiting}
+use Rattle.session.specs.declared.Session.{Session}
+use Rattle.rows.specs.Rows.{Given, REGISTER}
+use Rattle.fitting.specs.Fitting.{criterion-fits}
+use Rattle.route.specs.Listing.{listed}
+
+-- a line of the table: whether it holds, its number, its place
+pub record Line : Type 0 where
+  pub holds : Bool
+  pub number : ℕ
+  pub place : ℕ
+
+-- "Other refusals have place 0."
+abbrev pub at-0 : Bool → ℕ → Line
+at-0 b n = record { holds = b; number = n; place = 0 }
+
+-- a refusal's number and place; 0 and 0 is none
+pub record Refusal : Type 0 where
+  pub number : ℕ
+  pub place : ℕ
+
+-- no refusal
+abbrev pub no-refusal : Refusal
+no-refusal = record { number = 0; place = 0 }
+
+-- r is that of the first line that holds: it holds, and none earlier does
+pub data First : List Line → Refusal → Type 0 where
+  none-holds : First [] no-refusal
+  this-one : {l : Line} {ls : List Line} → T (l .holds) → First (l ∷ ls) (record { number = l .number; place = l .place })
+  a-later-one : {l : Line} {ls : List Line} {r : Refusal} → T (not (l .holds)) → First ls r → First (l ∷ ls) r
+
+-- ---- the lines
+
+-- "image faults (1 to 6, among themselves as below)"
+abbrev pub image-line : Judged → Line
+image-line (accepted p) = record { holds = false; number = 0; place = 0 }
+image-line (refused n place) = record { holds = true; number = n; place = place }
+
+-- 7 "request unreadable"
+abbrev pub unreadable : Option Request → Bool
+unreadable none = true
+unreadable (some q) = false
+
+-- 11: the method is REGISTER (of an unreadable request it is not asked)
+abbrev pub is-register : Option Request → Bool
+is-register none = false
+is-register (some q) = same (q .method) REGISTER
+
+-- 12 "more fitting criteria than places"
+abbrev pub too-many : Given → Judged → Option Request → List ℕ → Bool
+too-many g (refused n place) o places = false
+too-many g (accepted p) none places = false
+too-many g (accepted p) (some q) places = not (leb (length (listed (criterion-fits q g p) (p .criteria))) (length places))
+
+-- 13 "no such criterion"
+abbrev pub missing : Option Criterion → Bool
+missing none = true
+missing (some c) = false
+
+-- of an image that is accepted
+abbrev pub no-such : Judged → ℕ → Bool
+no-such (refused n place) i = false
+no-such (accepted p) i = missing (getElem? (p .criteria) i)
+
+-- ---- the orders: "10, image faults, 7, 11, 8, 9, 12; for a lookup 13 after the image"
+
+abbrev pub check-lines : List ℕ → List Line
+check-lines image = image-line (judge image) ∷ []
+
+abbrev pub open-lines : ℕ → List Line
+open-lines case = at-0 (not (leb case 3)) 8 ∷ []
+
+abbrev pub advance-lines : Session → List ℕ → List ℕ → List Line
+advance-lines x image r =
+    at-0 (not (possible x && eqb (x .state) ready)) 10
+    ∷ image-line (judge image)
+    ∷ at-0 (unreadable (read-request r)) 7
+    ∷ at-0 (is-register (read-request r)) 11
+    ∷ []
+
+abbrev pub report-lines : Session → ℕ → List Line
+report-lines x n = at-0 (not (possible x && eqb (x .state) waiting)) 10 ∷ at-0 (not (leb n 2)) 8 ∷ []
+
+abbrev pub listing-lines : Given → List ℕ → List ℕ → List ℕ → List Line
+listing-lines g image r places =
+    image-line (judge image)
+    ∷ at-0 (unreadable (read-request r)) 7
+    ∷ at-0 (not (is-register (read-request r))) 11
+    ∷ at-0 (not (leb (g .case) 3)) 8
+    ∷ at-0 (not (leb (g .registration) 2)) 9
+    ∷ at-0 (too-many g (judge image) (read-request r) places) 12
+    ∷ []
+
+abbrev pub lookup-lines : List ℕ → ℕ → List Line
+lookup-lines image i = image-line (judge image) ∷ at-0 (no-such (judge image) i) 13 ∷ []
