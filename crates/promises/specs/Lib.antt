@@ -4,3 +4,4 @@ pub mod Common
 pub mod Marked
 pub mod Reached
 pub mod Refusals
+pub mod Walks

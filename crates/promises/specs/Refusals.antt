@@ -9,12 +9,14 @@ use lib.Dec.{T, leb, eqb}
 use Rattle.octets.specs.Lists.{pick, same}
 use Rattle.profile.specs.Image.{Criterion, Profile, Judged, accepted, refused}
 use Rattle.profile.specs.Judging.{judge}
+use Rattle.profile.specs.declared.Lookup.{Lookup}
 use Rattle.request.specs.Request.{Request, read-request}
 use Rattle.session.specs.Session.{possible, ready, waiting}
 use Rattle.session.specs.declared.Session.{Session}
 use Rattle.rows.specs.Rows.{Given, REGISTER}
 use Rattle.fitting.specs.Fitting.{criterion-fits}
-use Rattle.route.specs.Listing.{listed}
+use Rattle.route.specs.Listing.{Listing, listed}
+use Rattle.route.specs.declared.Advanced.{Advanced}
 
 -- a line of the table: whether it holds, its number, its place
 pub record Line : Type 0 where
@@ -105,3 +107,25 @@ listing-lines g image r places =
 
 abbrev pub lookup-lines : List ℕ → ℕ → List Line
 lookup-lines image i = image-line (judge image) ∷ at-0 (no-such (judge image) i) 13 ∷ []
+
+-- ---- "on a refusal the session comes back as it went in, counts are zero, no place of an output list is written"
+
+pub record AdvanceUnchanged (x : Session) (a : Advanced) : Type 0 where
+  pub session : a .session ≡ x
+  pub outcome : a .outcome ≡ 0
+  pub number : a .number ≡ 0
+  pub priority : a .priority ≡ 0
+  pub examined : a .examined ≡ 0
+  pub trials : a .trials ≡ 0
+
+pub record ListingUnchanged (before : List ℕ) (l : Listing) : Type 0 where
+  pub places : l .places ≡ before
+  pub count : l .answer .count ≡ 0
+  pub examined : l .answer .examined ≡ 0
+  pub trials : l .answer .trials ≡ 0
+
+-- "Refused or absent gives an empty part"; present is "no if refused"
+pub record LookupEmpty (a : Lookup) : Type 0 where
+  pub present : a .present ≡ false
+  pub start : a .start ≡ 0
+  pub length : a .length ≡ 0

@@ -1,0 +1,74 @@
+-- Demand 2 in a reader's words: which criteria an advance could forward, and what its answer says of them.
+use mathlib.Core.Bool.{false}
+use mathlib.Core.Option.{some}
+use mathlib.Core.Path.{_≡_}
+use Prim.Native.Nat.{ℕ, _+_, _≤_}
+use mathlib.Core.List.{List, [], _∷_, List·Memᴰ}
+use lib.Dec.{T, eqb}
+use Rattle.octets.specs.Lists.{pick, same}
+use Rattle.profile.specs.Image.{Profile, accepted}
+use Rattle.profile.specs.Judging.{judge}
+use Rattle.request.specs.Request.{Request, read-request}
+use Rattle.session.specs.Session.{possible, ready, report-session}
+use Rattle.session.specs.declared.Session.{Session}
+use Rattle.rows.specs.Rows.{Given, REGISTER}
+use Rattle.fitting.specs.Fitting.{criterion-fits}
+use Rattle.route.specs.Order.{Numbered, numbered, priority, above-last}
+use Rattle.route.specs.Advance.{in-session, advance}
+use Rattle.route.specs.declared.Advanced.{Advanced}
+
+-- ---- one advance
+
+-- a criterion of the image above the last one forwarded that fits the request in hand
+pub record Candidate (x : Session) (p : Profile) (q : Request) (n : Numbered) : Type 0 where
+  pub member : List·Memᴰ n (numbered 0 (p .criteria))
+  pub above : T (above-last x n)
+  pub fit : T (criterion-fits q (in-session x) p (n .criterion))
+
+-- what lets an advance give an answer: nothing refuses it
+pub record Answers (x : Session) (image r : List ℕ) (p : Profile) (q : Request) : Type 0 where
+  pub can-be : T (possible x)
+  pub is-ready : T (eqb (x .state) ready)
+  pub accepts : judge image ≡ accepted p
+  pub reads : read-request r ≡ some q
+  pub other : same (q .method) REGISTER ≡ false
+
+-- the chosen one, with what the answer says of it
+pub record Forward (x : Session) (p : Profile) (q : Request) (a : Advanced) : Type 0 where
+  pub chosen-one : Numbered
+  pub candidate : Candidate x p q chosen-one
+  pub lowest : (n : Numbered) → Candidate x p q n → priority chosen-one ≤ priority n
+  pub outcome : a .outcome ≡ 1
+  pub number : a .number ≡ chosen-one .number
+  pub its-priority : a .priority ≡ priority chosen-one
+  pub last : a .session .last ≡ priority chosen-one
+  pub forwarded : a .session .forwarded ≡ 1
+
+-- there is none: all that changes is the state
+pub record Routes (x : Session) (p : Profile) (q : Request) (a : Advanced) : Type 0 where
+  pub none-fits : (n : Numbered) → Candidate x p q n → ⊥
+  pub outcome : a .outcome ≡ 2
+  pub last : a .session .last ≡ x .last
+  pub forwarded : a .session .forwarded ≡ x .forwarded
+
+-- an answer is one or the other
+pub data Answered (x : Session) (p : Profile) (q : Request) (a : Advanced) : Type 0 where
+  forwarding : Forward x p q a → Answered x p q a
+  routing : Routes x p q a → Answered x p q a
+
+-- ---- how often
+
+-- 1 if the outcome is forward
+abbrev pub one-if : ℕ → ℕ
+one-if outcome = pick (eqb outcome 1) 1 0
+
+-- a request to advance with, or a report
+pub data Move : Type 0 where
+  ask : List ℕ → Move
+  tell : ℕ → Move
+
+-- how often it forwards
+unfoldable pub forwards : List ℕ → List Move → Session → ℕ
+forwards image [] x = 0
+forwards image (ask r ∷ ms) x = one-if (advance x image r .outcome) + forwards image ms (advance x image r .session)
+forwards image (tell n ∷ ms) x = forwards image ms (report-session x n .session)
