@@ -1,6 +1,8 @@
 pub mod Alike
 pub mod AtMost
 pub mod Next
+pub mod Possible
+pub mod Reach
 pub mod Refused
 pub mod Sequences
 pub mod StartLine
