@@ -1,5 +1,6 @@
 pub mod Alike
 pub mod AtMost
+pub mod Listings
 pub mod Next
 pub mod Possible
 pub mod Reach

@@ -1,11 +1,12 @@
 -- Demand 2 in a reader's words: which criteria an advance could forward, and what its answer says of them.
-use mathlib.Core.Bool.{false}
+use mathlib.Core.Bool.{true, false}
 use mathlib.Core.Option.{some}
 use mathlib.Core.Path.{_≡_}
 use Prim.Native.Nat.{ℕ, _+_, _≤_}
-use mathlib.Core.List.{List, [], _∷_, List·Memᴰ}
-use lib.Dec.{T, eqb}
-use Rattle.octets.specs.Lists.{pick, same}
+use mathlib.Core.List.{List, [], _∷_, _++_, List·Memᴰ}
+use lib.ListN.{length, drop}
+use lib.Dec.{T, leb, ltb, eqb}
+use Rattle.octets.specs.Lists.{pick, every, same}
 use Rattle.profile.specs.Image.{Profile, accepted}
 use Rattle.profile.specs.Judging.{judge}
 use Rattle.request.specs.Request.{Request, read-request}
@@ -15,6 +16,7 @@ use Rattle.rows.specs.Rows.{Given, REGISTER}
 use Rattle.fitting.specs.Fitting.{criterion-fits}
 use Rattle.route.specs.Order.{Numbered, numbered, priority, above-last}
 use Rattle.route.specs.Advance.{in-session, advance}
+use Rattle.route.specs.Listing.{Listing, listed, numbers}
 use Rattle.route.specs.declared.Advanced.{Advanced}
 
 -- ---- one advance
@@ -55,6 +57,32 @@ pub record Routes (x : Session) (p : Profile) (q : Request) (a : Advanced) : Typ
 pub data Answered (x : Session) (p : Profile) (q : Request) (a : Advanced) : Type 0 where
   forwarding : Forward x p q a → Answered x p q a
   routing : Routes x p q a → Answered x p q a
+
+-- ---- one listing
+
+-- what lets a listing give an answer: nothing refuses it
+pub record Listable (g : Given) (image r before : List ℕ) (p : Profile) (q : Request) : Type 0 where
+  pub accepts : judge image ≡ accepted p
+  pub reads : read-request r ≡ some q
+  pub register : same (q .method) REGISTER ≡ true
+  pub case-known : T (leb (g .case) 3)
+  pub type-known : T (leb (g .registration) 2)
+  pub room : length (listed (criterion-fits q g p) (p .criteria)) ≤ length before
+
+-- each one's priority is below that of all after it
+abbrev pub Rises : List Numbered → Type 0
+Rises [] = Unit {0}
+Rises (n ∷ ns) = T (every (λ m. ltb (priority n) (priority m)) ns) × Rises ns
+
+-- "every fitting criterion, priority rising, criterion numbers in the first places of a lent list, the rest untouched"
+pub record ListsAll (g : Given) (p : Profile) (q : Request) (before : List ℕ) (l : Listing) : Type 0 where
+  pub chosen : List Numbered
+  pub rises : Rises chosen
+  pub all-fit : (n : Numbered) → List·Memᴰ n chosen → List·Memᴰ n (numbered 0 (p .criteria)) × T (criterion-fits q g p (n .criterion))
+  pub no-other : (n : Numbered) → List·Memᴰ n (numbered 0 (p .criteria)) → T (criterion-fits q g p (n .criterion)) → List·Memᴰ n chosen
+  pub places : l .places ≡ numbers chosen ++ drop (length chosen) before
+  pub count : l .answer .count ≡ length chosen
+  pub examined : l .answer .examined ≡ length (p .criteria)
 
 -- ---- how often
 

@@ -1,0 +1,61 @@
+-- Demand 2 for the listing: exactly the fitting criteria, priority rising, in the first places.
+use mathlib.Core.Bool.{Bool, true, not}
+use mathlib.Core.Option.{Option, some}
+use mathlib.Core.Path.{_≡_, refl, sym, ap, ap₂, _∙_, subst}
+use Prim.Native.Nat.{ℕ, suc}
+use mathlib.Core.List.{List, [], _∷_, _++_}
+use lib.ListN.{length, drop}
+use lib.Dec.{T, leb, le→leb}
+use Rattle.octets.specs.Lists.{pick, only, same, total}
+use Rattle.octets.proofs.Tests.{is-true}
+use Rattle.octets.proofs.Kept.{only-sound, only-complete}
+use Rattle.profile.specs.Image.{Profile, Judged}
+use Rattle.profile.specs.Judging.{judge}
+use Rattle.profile.proofs.Accepted.{Sound, accepted-sound}
+use Rattle.request.specs.Request.{Request, read-request}
+use Rattle.rows.specs.Rows.{Given, REGISTER}
+use Rattle.fitting.specs.Fitting.{criterion-fits, criterion-trials}
+use Rattle.route.specs.Order.{Numbered, numbered, rising}
+use Rattle.route.specs.Listing.{Listing, numbers, listed, refuse-list, filled, fill, fill-with, list-read, list-judged, listing}
+use Rattle.route.proofs.Rising.{rising-strict, rising-has, rising-only, only-apart, numbered-apart}
+use Rattle.promises.specs.Walks.{Listable, ListsAll}
+
+numbers-length : (l : List Numbered) → length (numbers l) ≡ length l
+numbers-length [] = refl
+numbers-length (n ∷ ns) = ap suc (numbers-length ns)
+
+module _ (g : Given) (image r before : List ℕ) (p : Profile) (q : Request) (h : Listable g image r before p q) where
+  fits : Numbered → Bool
+  fits n = criterion-fits q g p (n .criterion)
+
+  chosen : List Numbered
+  chosen = rising (only fits (numbered 0 (p .criteria)))
+
+  answer : Listing
+  answer = filled (listed (criterion-fits q g p) (p .criteria)) (length (p .criteria)) (total (criterion-trials q g p) (p .criteria)) before
+
+  is-filled : listing g image r before ≡ answer
+  unfolding listing fill fill-with answer
+  is-filled =
+      ap (λ (j : Judged). list-judged g j r before) (h .accepts)
+      ∙ ap (λ (o : Option Request). list-read g p o before) (h .reads)
+      ∙ ap (λ (b : Bool). pick (not b) (refuse-list before 11 0) (pick (not (leb (g .case) 3)) (refuse-list before 8 0) (pick (not (leb (g .registration) 2)) (refuse-list before 9 0) (fill q g p before)))) (h .register)
+      ∙ ap (λ (b : Bool). pick (not b) (refuse-list before 8 0) (pick (not (leb (g .registration) 2)) (refuse-list before 9 0) (fill q g p before))) (is-true (leb (g .case) 3) (h .case-known))
+      ∙ ap (λ (b : Bool). pick (not b) (refuse-list before 9 0) (fill q g p before)) (is-true (leb (g .registration) 2) (h .type-known))
+      ∙ ap (λ (b : Bool). pick b answer (refuse-list before 12 0))
+      (is-true (leb (length (listed (criterion-fits q g p) (p .criteria))) (length before)) (le→leb (length (listed (criterion-fits q g p) (p .criteria))) (length before) (h .room)))
+
+  filled-right : ListsAll g p q before answer
+  unfolding answer listed chosen fits
+  filled-right = record {
+    chosen = chosen;
+    rises = rising-strict (only fits (numbered 0 (p .criteria))) (only-apart fits (numbered 0 (p .criteria)) (numbered-apart 0 (p .criteria) (accepted-sound image p (h .accepts) .distinct)));
+    all-fit = λ n d. only-sound fits (numbered 0 (p .criteria)) n (rising-only n (only fits (numbered 0 (p .criteria))) d);
+    no-other = λ n d t. rising-has (only-complete fits d t);
+    places = ap (λ (k : ℕ). numbers chosen ++ drop k before) (numbers-length chosen);
+    count = numbers-length chosen;
+    examined = refl;
+  }
+
+  pub lists-all : ListsAll g p q before (listing g image r before)
+  lists-all = subst (ListsAll g p q before) (sym is-filled) filled-right
