@@ -1,10 +1,13 @@
 pub mod Alike
 pub mod AtMost
 pub mod Listings
+pub mod Main
 pub mod Next
+pub mod OneAnswer
 pub mod Possible
 pub mod Reach
 pub mod Refused
+pub mod RuledOut
 pub mod Sequences
 pub mod StartLine
 pub mod Unchanged

@@ -1,0 +1,123 @@
+-- The page to open first: the three demands, each a short statement whose proof cites where the work is.
+use mathlib.Core.Bool.{Bool}
+use mathlib.Core.Path.{_≡_}
+use mathlib.Core.Logic.{_↔_}
+use Prim.Native.Nat.{ℕ, _≤_, _<_, _^_}
+use mathlib.Core.List.{List}
+use lib.ListN.{length, getElem?}
+use lib.Dec.{T}
+use mathlib.Core.Option.{some}
+use Rattle.octets.specs.Lists.{every}
+use Rattle.pattern.specs.Pattern.{Atom, Pattern, Matches}
+use Rattle.pattern.specs.Matching.{matches}
+use Rattle.pattern.proofs.Meaning.{matches-iff}
+use Rattle.profile.specs.Image.{Criterion, Profile, accepted}
+use Rattle.profile.specs.Judging.{judge}
+use Rattle.profile.specs.Lookups.{server, information, part-of}
+use Rattle.profile.proofs.Parts.{server-part}
+use Rattle.request.specs.Request.{Request}
+use Rattle.session.specs.Session.{possible, unopened, open-session, report-session}
+use Rattle.session.specs.declared.Session.{Session}
+use Rattle.rows.specs.Rows.{Given}
+use Rattle.route.specs.Order.{Numbered}
+use Rattle.route.specs.Advance.{advance}
+use Rattle.route.specs.Listing.{listing}
+use Rattle.route.proofs.Trials as trials
+use Rattle.promises.specs.Agreement.{Agree}
+use Rattle.promises.specs.Calls.{Call, Store, run, AllRelated}
+use Rattle.promises.specs.Common as common
+use Rattle.promises.specs.Marked as marked
+use Rattle.promises.specs.Reached.{Reached}
+use Rattle.promises.specs.Refusals.{First, advance-lines, listing-lines, report-lines, AdvanceUnchanged, ListingUnchanged}
+use Rattle.promises.specs.Walks.{Candidate, Answers, Answered, Listable, ListsAll, Move, forwards}
+use Rattle.promises.proofs.Alike as alike
+use Rattle.promises.proofs.AtMost.{at-most}
+use Rattle.promises.proofs.Listings.{lists-all}
+use Rattle.promises.proofs.Next.{route-iff, advance-answers}
+use Rattle.promises.proofs.Reach as reach
+use Rattle.promises.proofs.Refused.{of-advanced, of-listing, of-reported, advance-refusal, listing-refusal, report-refusal}
+use Rattle.promises.proofs.Sequences.{run-same}
+use Rattle.promises.proofs.Unchanged as unchanged
+
+-- ---- demand 1: any bytes, any order, callers that checked nothing
+
+-- "one fixed refusal number for each fault": that of the first line of the table that holds
+pub advance-refuses : (x : Session) (image r : List ℕ) → First (advance-lines x image r) (of-advanced (advance x image r))
+advance-refuses = advance-refusal
+
+pub listing-refuses : (g : Given) (image r before : List ℕ) → First (listing-lines g image r before) (of-listing (listing g image r before))
+listing-refuses = listing-refusal
+
+pub report-refuses : (x : Session) (n : ℕ) → First (report-lines x n) (of-reported (report-session x n))
+report-refuses = report-refusal
+
+-- "on a refusal the session comes back as it went in, counts are zero, no place of an output list is written"
+pub advance-unchanged : (x : Session) (image r : List ℕ) → (advance x image r .refusal ≡ 0 → ⊥) → AdvanceUnchanged x (advance x image r)
+advance-unchanged = unchanged.advance-unchanged
+
+pub listing-unchanged : (g : Given) (image r before : List ℕ) → (listing g image r before .answer .refusal ≡ 0 → ⊥) → ListingUnchanged before (listing g image r before)
+listing-unchanged = unchanged.listing-unchanged
+
+pub report-unchanged : (x : Session) (n : ℕ) → (report-session x n .refusal ≡ 0 → ⊥) → report-session x n .session ≡ x
+report-unchanged = unchanged.report-unchanged
+
+-- number 10 is exactly "a record that no session can have", or one in another state
+pub possible-iff-reached : (x : Session) → T (possible x) ↔ Reached x
+possible-iff-reached = reach.possible-iff
+
+-- ---- demand 2: every answer is what document 01 says
+
+-- the answer of an advance: the fitting criterion with the smallest priority above the last, or route
+pub next-is-least : (x : Session) (image r : List ℕ) (p : Profile) (q : Request) → Answers x image r p q → Answered x p q (advance x image r)
+next-is-least = advance-answers
+
+-- "when exactly does a call not pass": it is routed exactly if no criterion above the last fits
+pub route-iff-none-fits : (x : Session) (image r : List ℕ) (p : Profile) (q : Request) → Answers x image r p q
+    → (advance x image r .outcome ≡ 2) ↔ ((n : Numbered) → Candidate x p q n → ⊥)
+route-iff-none-fits = route-iff
+
+-- "over one image of n criteria a session forwards at most n times"
+pub forwards-at-most : (image : List ℕ) (p : Profile) → judge image ≡ accepted p → (ms : List Move) (x : Session) → forwards image ms x ≤ length (p .criteria)
+forwards-at-most = at-most
+
+-- a listing is exactly the fitting criteria, priority rising
+pub listed-exactly : (g : Given) (image r before : List ℕ) (p : Profile) (q : Request) → Listable g image r before p q → ListsAll g p q before (listing g image r before)
+listed-exactly = lists-all
+
+-- trials stay below 2^32, whatever is lent
+pub advance-trials : (x : Session) (image r : List ℕ) → advance x image r .trials < 2 ^ 32
+advance-trials = trials.advance-below
+
+pub listing-trials : (g : Given) (image r before : List ℕ) → listing g image r before .answer .trials < 2 ^ 32
+listing-trials = trials.listing-below
+
+-- a pattern matches exactly if some part of the string fits it
+pub matches-iff-fits : (meet : Atom → ℕ → Bool) (p : Pattern) (s : List ℕ) → T (matches meet p s) ↔ Matches meet p s
+matches-iff-fits = matches-iff
+
+-- a server name is handed back as that part of the image
+pub server-is-part : (image : List ℕ) (p : Profile) → judge image ≡ accepted p → (i : ℕ) (c : Criterion) → getElem? (p .criteria) i ≡ some c
+    → part-of image (server image i) ≡ c .server .bytes
+server-is-part = server-part
+
+-- ---- demand 3: nothing else in the message was read
+
+pub advance-reads-no-more : (image a b : List ℕ) → Agree image a b → (x : Session) → advance x image a ≡ advance x image b
+advance-reads-no-more = alike.advance-same
+
+pub listing-reads-no-more : (image a b : List ℕ) → Agree image a b → (g : Given) (before : List ℕ) → listing g image a before ≡ listing g image b before
+listing-reads-no-more = alike.listing-same
+
+-- over any sequence of calls: equal answers, refusals, counts, lists and sessions
+pub calls-read-no-more : {cs ds : List Call} → AllRelated cs ds → (st : Store) → run cs st ≡ run ds st
+calls-read-no-more = run-same
+
+-- ---- the examples
+
+-- "Marked for proof, as a single list with one claim about all of it"
+pub marked-right : T (every marked.right marked.marked)
+marked-right = marked.all-right
+
+-- "Ways it is commonly got wrong"
+pub common-right : T (every common.right common.common)
+common-right = common.all-right

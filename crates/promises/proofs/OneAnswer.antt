@@ -1,0 +1,38 @@
+-- What each contract cites leaves one answer, and one content of every lent place.
+use mathlib.Core.Path.{_≡_, sym, _∙_}
+use Prim.Native.Nat.{ℕ}
+use mathlib.Core.List.{List}
+use Rattle.profile.specs.Lookups.{Checks, Serves, Informs}
+use Rattle.profile.specs.declared.Checked.{Checked}
+use Rattle.profile.specs.declared.Lookup.{Lookup}
+use Rattle.session.specs.Session.{Opens, Reports}
+use Rattle.session.specs.declared.Session.{Session}
+use Rattle.session.specs.declared.Opened.{Opened}
+use Rattle.session.specs.declared.Reported.{Reported}
+use Rattle.rows.specs.Rows.{Given}
+use Rattle.route.specs.Advance.{Advances}
+use Rattle.route.specs.Listing.{Lists}
+use Rattle.route.specs.declared.Advanced.{Advanced}
+use Rattle.route.specs.declared.Listed.{Listed}
+
+pub one-check : {image : List ℕ} {a b : Checked} → Checks image a → Checks image b → a ≡ b
+one-check h k = h .answer ∙ sym (k .answer)
+
+pub one-server : {image : List ℕ} {i : ℕ} {a b : Lookup} → Serves image i a → Serves image i b → a ≡ b
+one-server h k = h .answer ∙ sym (k .answer)
+
+pub one-information : {image : List ℕ} {i : ℕ} {a b : Lookup} → Informs image i a → Informs image i b → a ≡ b
+one-information h k = h .answer ∙ sym (k .answer)
+
+pub one-open : {case : ℕ} {a b : Opened} → Opens case a → Opens case b → a ≡ b
+one-open h k = h .answer ∙ sym (k .answer)
+
+pub one-report : {x : Session} {n : ℕ} {a b : Reported} → Reports x n a → Reports x n b → a ≡ b
+one-report h k = h .answer ∙ sym (k .answer)
+
+pub one-advance : {x : Session} {image r : List ℕ} {a b : Advanced} → Advances x image r a → Advances x image r b → a ≡ b
+one-advance h k = h .answer ∙ sym (k .answer)
+
+pub one-listing : {g : Given} {image r before after after′ : List ℕ} {a b : Listed} → Lists g image r before a after → Lists g image r before b after′
+    → (a ≡ b) × (after ≡ after′)
+one-listing h k = (h .answer ∙ sym (k .answer), h .places ∙ sym (k .places))

@@ -1,0 +1,126 @@
+-- "Try against the statements": five wrong libraries, each shut out by a concrete image and request.
+use mathlib.Core.Path.{_≡_, refl, sym, ap, _∙_}
+use Prim.Native.Nat.{ℕ}
+use native.Mathlib.Omega.{arith}
+use mathlib.Core.List.{List, [], _∷_, _++_}
+use Rattle.octets.specs.Lists.{text}
+use Rattle.profile.specs.Examples.{two, string, row, membership, criterion, one-criterion}
+use Rattle.session.specs.Session.{fresh, report-session}
+use Rattle.session.specs.declared.Session.{Session}
+use Rattle.rows.specs.Rows.{Given}
+use Rattle.route.specs.Advance.{advance, Advances}
+use Rattle.route.specs.Listing.{Listing, listing, Lists}
+use Rattle.route.specs.declared.Advanced.{Advanced}
+use Rattle.route.specs.declared.Listed.{Listed}
+
+-- ---- libraries
+
+-- a library for advance, and that it meets the statement
+abbrev Library : Type 0
+Library = Session → List ℕ → List ℕ → Advanced
+
+abbrev Meets : Library → Type 0
+Meets lib = (x : Session) (image r : List ℕ) → Advances x image r (lib x image r)
+
+-- one for listing: its answer, and what it leaves in the lent list
+abbrev Lister : Type 0
+Lister = Given → List ℕ → List ℕ → List ℕ → Listing
+
+abbrev MeetsList : Lister → Type 0
+MeetsList lib = (g : Given) (image r before : List ℕ) → Lists g image r before (lib g image r before .answer) (lib g image r before .places)
+
+-- ---- bytes to try them on
+
+invite : List ℕ
+invite = text "INVITE sip:b SIP/2.0\r\n\r\n"
+
+invite-from : List ℕ
+invite-from = text "INVITE sip:b SIP/2.0\r\nFrom: joe\r\n\r\n"
+
+register : List ℕ
+register = text "REGISTER sip:b SIP/2.0\r\n\r\n"
+
+-- criterion 0 of priority 5 with no trigger, and criterion 1 of priority 3 for Method REGISTER
+two-criteria : List ℕ
+two-criteria =
+    1 ∷ two 2 ++ string "sip:a" ++ string "REGISTER" ++ two 1 ++ row 0 1 1 65535 ++ two 1 ++ membership 0 0
+    ++ two 2 ++ criterion 5 2 0 0 0 1 ++ criterion 3 0 0 1 0 0
+
+-- one criterion for a From field
+for-from : List ℕ
+for-from = 1 ∷ two 2 ++ string "sip:a" ++ string "From" ++ two 1 ++ row 0 2 1 65535 ++ two 1 ++ membership 0 0 ++ two 1 ++ criterion 5 0 0 1 0 0
+
+-- ---- what the definitions say of them
+
+forwards-5 : advance (fresh 0) one-criterion invite .outcome ≡ 1
+unfolding advance invite
+forwards-5 = refl
+
+-- the session once the server returned the request
+returned : Session
+returned = report-session (advance (fresh 0) one-criterion invite .session) 0 .session
+
+then-routes : advance returned one-criterion invite .outcome ≡ 2
+unfolding advance report-session invite returned
+then-routes = refl
+
+no-trials : advance (fresh 0) for-from invite .trials ≡ 0
+unfolding advance invite for-from
+no-trials = refl
+
+one-trial : advance (fresh 0) for-from invite-from .trials ≡ 1
+unfolding advance invite-from for-from
+one-trial = refl
+
+given : Given
+given = record { case = 0; registration = 0 }
+
+lists-two : listing given two-criteria register (7 ∷ 8 ∷ 9 ∷ []) .places ≡ 1 ∷ 0 ∷ 9 ∷ []
+unfolding listing two-criteria register given
+lists-two = refl
+
+-- ---- the wrong ones
+
+outcome-of : Advanced → ℕ
+outcome-of a = a .outcome
+
+trials-of : Advanced → ℕ
+trials-of a = a .trials
+
+-- one that refuses everything
+pub not-refuse-all : (lib : Library) → ((x : Session) (image r : List ℕ) → lib x image r .outcome ≡ 0) → Meets lib → ⊥
+unfolding outcome-of
+not-refuse-all lib h m =
+    let z : _≡_ {A = ℕ} 0 1 = sym (h (fresh 0) one-criterion invite) ∙ ap outcome-of (m (fresh 0) one-criterion invite .answer) ∙ forwards-5 in
+    omega arith
+
+-- one that always routes
+pub not-always-route : (lib : Library) → ((x : Session) (image r : List ℕ) → lib x image r .outcome ≡ 2) → Meets lib → ⊥
+unfolding outcome-of
+not-always-route lib h m =
+    let z : _≡_ {A = ℕ} 2 1 = sym (h (fresh 0) one-criterion invite) ∙ ap outcome-of (m (fresh 0) one-criterion invite .answer) ∙ forwards-5 in
+    omega arith
+
+-- one that is "right at its first advance and idle after": no answer to a session that forwarded before
+pub not-idle : (lib : Library) → ((x : Session) (image r : List ℕ) → x .forwarded ≡ 1 → lib x image r .outcome ≡ 0) → Meets lib → ⊥
+unfolding outcome-of advance report-session invite returned
+not-idle lib h m =
+    let z : _≡_ {A = ℕ} 0 2 = sym (h returned one-criterion invite refl) ∙ ap outcome-of (m returned one-criterion invite .answer) ∙ then-routes in
+    omega arith
+
+-- one whose trials are made up: the same whatever the request
+pub not-made-up : (lib : Library) → ((x : Session) (image a b : List ℕ) → lib x image a .trials ≡ lib x image b .trials) → Meets lib → ⊥
+unfolding trials-of
+not-made-up lib h m =
+    let z : _≡_ {A = ℕ} 0 1 =
+    sym (ap trials-of (m (fresh 0) for-from invite .answer) ∙ no-trials) ∙ h (fresh 0) for-from invite invite-from
+    ∙ ap trials-of (m (fresh 0) for-from invite-from .answer) ∙ one-trial in
+    omega arith
+
+-- "a listing that writes nothing"
+pub not-silent : (lib : Lister) → ((g : Given) (image r before : List ℕ) → lib g image r before .places ≡ before) → MeetsList lib → ⊥
+not-silent lib h m =
+    let z : _≡_ {A = List ℕ} (7 ∷ 8 ∷ 9 ∷ []) (1 ∷ 0 ∷ 9 ∷ []) =
+    sym (h given two-criteria register (7 ∷ 8 ∷ 9 ∷ [])) ∙ m given two-criteria register (7 ∷ 8 ∷ 9 ∷ []) .places ∙ lists-two in
+    let w : _≡_ {A = ℕ} 7 1 = cc in
+    omega arith
