@@ -1,8 +1,8 @@
 -- Laws of tests: `&&`, `||`, `not`, `pick` and the tests on lists.
 use mathlib.Core.Bool.{Bool, true, false, not, _&&_, _||_}
-use mathlib.Core.Path.{_≡_, refl, sym, ap, ap₂, _∙_, subst}
-use Prim.Native.Nat.{ℕ, zero, suc, _+_}
-use mathlib.Core.List.{List, [], _∷_, _++_}
+use mathlib.Core.Path.{_≡_, refl, sym, ap₂, subst}
+use Prim.Native.Nat.{ℕ, _+_}
+use mathlib.Core.List.{List, [], _∷_}
 use lib.Dec.{T, not-T, eqb, eqb→eq, eqb-refl}
 use Rattle.octets.specs.Lists.{pick, every, some-of, total, same}
 

@@ -1,7 +1,7 @@
 -- What every accepted image has: distinct priorities, at most 64 criteria, triggers of at most 32 rows that lie in the table,
 -- memberships of rows that there are, and strings that stand in the image.
 use mathlib.Core.Bool.{Bool, true, false, not, _&&_, _||_}
-use mathlib.Core.Option.{Option, none, some}
+use mathlib.Core.Option.{none, some}
 use mathlib.Core.Path.{_≡_, refl, sym, ap, _∙_, subst}
 use mathlib.Core.Logic.{_⊎_, inl, inr}
 use Prim.Native.Nat.{ℕ, zero, suc, _+_, _≤_, _<_}
@@ -13,8 +13,8 @@ use Rattle.octets.specs.Lists.{pick, every, empty}
 use Rattle.octets.proofs.Tests.{left, right, or-left}
 use Rattle.octets.proofs.Options.{Ok}
 use Rattle.octets.proofs.Each.{Each}
-use Rattle.profile.specs.Reader.{Got, got, fault, Reader, and-then, number, integer, field, plain, unless, entries}
-use Rattle.profile.specs.Image.{Stored, Row, Member, Criterion, Profile, Judged, accepted, refused}
+use Rattle.profile.specs.Reader.{Got, got, fault, Reader, and-then, number, integer, field, unless, entries}
+use Rattle.profile.specs.Image.{Stored, Row, Member, Criterion, Profile, accepted, refused}
 use Rattle.profile.specs.Judging.{string, as-server, as-information, naming, naming-or-absent, row, member, follows, last, all-rows-have, repeats, first-ok, count-ok, as-handled, criterion, nothing-follows, profile, verdict, judge}
 use Rattle.profile.proofs.Gives.{Gives, then-any, then-with, gives-so, field-passes, unless-passes, naming-gives, naming-or-absent-gives, entries-keep, entries-each, entries-count}
 

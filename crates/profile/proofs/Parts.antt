@@ -1,5 +1,5 @@
 -- What a lookup hands back is the string itself: the part of the image at its place is its bytes.
-use mathlib.Core.Option.{Option, none, some}
+use mathlib.Core.Option.{Option, some}
 use mathlib.Core.Path.{_≡_, sym, ap, _∙_, subst}
 use Prim.Native.Nat.{ℕ}
 use mathlib.Core.List.{List}

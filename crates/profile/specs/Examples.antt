@@ -6,7 +6,7 @@ use mathlib.Core.List.{List, [], _∷_, _++_}
 use lib.ListN.{length}
 use lib.Dec.{T, eqb}
 use Rattle.octets.specs.Lists.{text, every}
-use Rattle.profile.specs.Image.{Profile, Judged, accepted, refused}
+use Rattle.profile.specs.Image.{Judged, accepted, refused}
 use Rattle.profile.specs.Judging.{judge}
 use Rattle.profile.specs.Lookups.{server, information}
 use Rattle.profile.specs.declared.Lookup.{Lookup}

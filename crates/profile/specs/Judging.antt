@@ -1,8 +1,8 @@
 -- An image is judged (document 01, "Profile image" and the places of "Refusal numbers"). The readings stand in the image's order,
 -- one line a field, so that the first fault met is the one answered.
-use mathlib.Core.Bool.{Bool, true, false, not, _&&_, _||_}
+use mathlib.Core.Bool.{Bool, true, not, _&&_, _||_}
 use mathlib.Core.Option.{Option, none, some}
-use Prim.Native.Nat.{ℕ, zero, suc, _+_}
+use Prim.Native.Nat.{ℕ, suc, _+_}
 use mathlib.Core.List.{List, [], _∷_}
 use lib.ListN.{length, getElem?}
 use lib.Dec.{leb, ltb, eqb}

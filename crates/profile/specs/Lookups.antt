@@ -1,11 +1,11 @@
 -- What the check of an image and the lookups of a criterion's server name and service information answer.
-use mathlib.Core.Bool.{Bool, true, false}
+use mathlib.Core.Bool.{true, false}
 use mathlib.Core.Option.{Option, none, some}
 use mathlib.Core.Path.{_≡_}
 use Prim.Native.Nat.{ℕ}
 use mathlib.Core.List.{List}
 use lib.ListN.{length, take, drop, getElem?}
-use Rattle.profile.specs.Image.{Stored, Criterion, Profile, Judged, accepted, refused}
+use Rattle.profile.specs.Image.{Stored, Criterion, Judged, accepted, refused}
 use Rattle.profile.specs.Judging.{judge}
 use Rattle.profile.specs.declared.Checked.{Checked}
 use Rattle.profile.specs.declared.Lookup.{Lookup}

@@ -1,5 +1,5 @@
 -- Demand 3 for one call: answers depend on no more of a request than its profile looks at.
-use mathlib.Core.Bool.{Bool, true, false, not, _&&_, _||_}
+use mathlib.Core.Bool.{Bool, not, _&&_, _||_}
 use mathlib.Core.Option.{Option, none, some}
 use mathlib.Core.Path.{_≡_, refl, sym, ap, ap₂, _∙_, subst, fun-ext}
 use Prim.Native.Nat.{ℕ, zero, suc, _+_}
@@ -9,10 +9,9 @@ use lib.Dec.{T, leb, eqb}
 use Rattle.octets.specs.Lists.{pick, some-of, total, same}
 use Rattle.octets.proofs.Tests.{T-of, test-cases, or-left, or-right}
 use Rattle.pattern.specs.Pattern.{Pattern}
-use Rattle.pattern.specs.Matching.{written-matches, name-matches}
-use Rattle.profile.specs.Image.{Test, request-uri, method, header, session-case, description, Row, Member, Criterion, Profile, Judged, accepted}
-use Rattle.profile.specs.Judging.{judge}
-use Rattle.request.specs.Request.{Request, Field, read-request}
+use Rattle.pattern.specs.Matching.{name-matches}
+use Rattle.profile.specs.Image.{Test, request-uri, method, header, session-case, description, Row, Member, Criterion, Profile, Judged}
+use Rattle.request.specs.Request.{Request, Field}
 use Rattle.request.specs.Body.{session-lines, request-lines}
 use Rattle.session.specs.Session.{possible, ready}
 use Rattle.session.specs.declared.Session.{Session}

@@ -1,19 +1,18 @@
 -- Demand 2 for the listing: exactly the fitting criteria, priority rising, in the first places.
-use mathlib.Core.Bool.{Bool, true, not}
-use mathlib.Core.Option.{Option, some}
-use mathlib.Core.Path.{_≡_, refl, sym, ap, ap₂, _∙_, subst}
+use mathlib.Core.Bool.{Bool, not}
+use mathlib.Core.Option.{Option}
+use mathlib.Core.Path.{_≡_, refl, sym, ap, _∙_, subst}
 use Prim.Native.Nat.{ℕ, suc}
 use mathlib.Core.List.{List, [], _∷_, _++_}
 use lib.ListN.{length, drop}
-use lib.Dec.{T, leb, le→leb}
-use Rattle.octets.specs.Lists.{pick, only, same, total}
+use lib.Dec.{leb, le→leb}
+use Rattle.octets.specs.Lists.{pick, only, total}
 use Rattle.octets.proofs.Tests.{is-true}
 use Rattle.octets.proofs.Kept.{only-sound, only-complete}
 use Rattle.profile.specs.Image.{Profile, Judged}
-use Rattle.profile.specs.Judging.{judge}
-use Rattle.profile.proofs.Accepted.{Sound, accepted-sound}
-use Rattle.request.specs.Request.{Request, read-request}
-use Rattle.rows.specs.Rows.{Given, REGISTER}
+use Rattle.profile.proofs.Accepted.{accepted-sound}
+use Rattle.request.specs.Request.{Request}
+use Rattle.rows.specs.Rows.{Given}
 use Rattle.fitting.specs.Fitting.{criterion-fits, criterion-trials}
 use Rattle.route.specs.Order.{Numbered, numbered, rising}
 use Rattle.route.specs.Listing.{Listing, numbers, listed, refuse-list, filled, fill, fill-with, list-read, list-judged, listing}

@@ -13,10 +13,10 @@ use Rattle.pattern.specs.Matching.{matches}
 use Rattle.pattern.proofs.Meaning.{matches-iff}
 use Rattle.profile.specs.Image.{Criterion, Profile, accepted}
 use Rattle.profile.specs.Judging.{judge}
-use Rattle.profile.specs.Lookups.{server, information, part-of}
+use Rattle.profile.specs.Lookups.{server, part-of}
 use Rattle.profile.proofs.Parts.{server-part}
 use Rattle.request.specs.Request.{Request}
-use Rattle.session.specs.Session.{possible, unopened, open-session, report-session}
+use Rattle.session.specs.Session.{possible, report-session}
 use Rattle.session.specs.declared.Session.{Session}
 use Rattle.rows.specs.Rows.{Given}
 use Rattle.route.specs.Order.{Numbered}

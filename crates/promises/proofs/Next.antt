@@ -1,14 +1,14 @@
 -- Demand 2's order: the answer is the fitting criterion with the smallest priority above the last, and route exactly if there is none.
-use mathlib.Core.Bool.{Bool, true, false, _&&_}
+use mathlib.Core.Bool.{Bool, _&&_}
 use mathlib.Core.Option.{Option, none, some}
 use mathlib.Core.Path.{_≡_, refl, sym, ap, ap₂, _∙_, subst}
 use mathlib.Core.Logic.{_↔_}
-use Prim.Native.Nat.{ℕ, _≤_}
+use Prim.Native.Nat.{ℕ}
 use native.Mathlib.Omega.{arith}
 use mathlib.Core.List.{List, List·Memᴰ}
 use lib.ListN.{length}
 use lib.Dec.{T, eqb}
-use Rattle.octets.specs.Lists.{pick, same, total}
+use Rattle.octets.specs.Lists.{pick, total}
 use Rattle.octets.proofs.Tests.{is-true}
 use Rattle.octets.proofs.Kept.{only-sound, only-complete}
 use Rattle.profile.specs.Image.{Profile, Judged}
@@ -16,13 +16,12 @@ use Rattle.profile.specs.Judging.{judge}
 use Rattle.request.specs.Request.{Request}
 use Rattle.session.specs.Session.{possible, ready}
 use Rattle.session.specs.declared.Session.{Session}
-use Rattle.rows.specs.Rows.{REGISTER}
 use Rattle.fitting.specs.Fitting.{criterion-fits, criterion-trials}
-use Rattle.route.specs.Order.{Numbered, numbered, priority, above-last, candidates, least, up-to}
+use Rattle.route.specs.Order.{Numbered, numbered, above-last, candidates, least, up-to}
 use Rattle.route.specs.Advance.{refuse, answer, walk, walk-with, in-session, advance-read, advance-judged, advance}
 use Rattle.route.specs.declared.Advanced.{Advanced}
 use Rattle.route.proofs.Chosen.{Right, least-right}
-use Rattle.promises.specs.Walks.{Candidate, Answers, Forward, Routes, Answered, forwarding, routing}
+use Rattle.promises.specs.Walks.{Candidate, Answers, Answered, forwarding, routing}
 
 -- ---- advance
 

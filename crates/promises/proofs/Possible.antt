@@ -1,8 +1,8 @@
 -- Every session that the calls give is one that a session can have: opening gives one, advance and report keep it.
 use mathlib.Core.Bool.{Bool, true, false, not, _&&_, _||_}
 use mathlib.Core.Option.{Option, none, some}
-use mathlib.Core.Path.{_≡_, refl, sym, ap, subst, subst₂}
-use Prim.Native.Nat.{ℕ, zero, suc, _≤_, _<_}
+use mathlib.Core.Path.{_≡_, refl, sym, subst, subst₂}
+use Prim.Native.Nat.{ℕ, zero, suc, _≤_}
 use native.Mathlib.Omega.{arith}
 use mathlib.Core.List.{List, List·Memᴰ}
 use lib.ListN.{length}
@@ -15,7 +15,7 @@ use Rattle.profile.specs.Image.{Criterion, Profile, Judged, accepted, refused}
 use Rattle.profile.specs.Judging.{judge}
 use Rattle.profile.proofs.Accepted.{Fine, Sound, accepted-sound}
 use Rattle.request.specs.Request.{Request, read-request}
-use Rattle.session.specs.Session.{ready, waiting, finished, released, ended, nothing-yet, some-yet, by-forwarded, possible, fresh, unopened, open-session, goes, stays, after-report, report-session}
+use Rattle.session.specs.Session.{ready, waiting, finished, released, ended, some-yet, by-forwarded, possible, fresh, unopened, open-session, stays, after-report, report-session}
 use Rattle.session.specs.declared.Session.{Session}
 use Rattle.session.specs.declared.Opened.{Opened}
 use Rattle.session.specs.declared.Reported.{Reported}

@@ -1,15 +1,15 @@
 -- Number 10 is exactly "a record that no session can have": the records that pass are those that some calls lead to.
 use mathlib.Core.Bool.{Bool, true, false, not, _&&_, _||_}
-use mathlib.Core.Option.{Option, none, some}
+use mathlib.Core.Option.{none, some}
 use mathlib.Core.Path.{_≡_, refl, sym, ap, ap₂, subst, subst₂}
 use mathlib.Core.Logic.{_↔_}
 use Prim.Native.Nat.{ℕ, zero, suc, _+_, _*_, _/_, _%_, _≤_, _<_}
 use native.Mathlib.Omega.{arith}
-use mathlib.Core.List.{List, [], _∷_, _++_}
+use mathlib.Core.List.{List, [], _∷_}
 use lib.Dec.{T, leb, ltb, eqb, leb→le, ltb→lt, lt→ltb, eqb→eq}
-use Rattle.octets.specs.Lists.{text, pick, every}
+use Rattle.octets.specs.Lists.{text, pick}
 use Rattle.octets.proofs.Tests.{both, left, right, or-cases, T-of, is-true, differ}
-use Rattle.profile.specs.Image.{Profile, Judged, accepted}
+use Rattle.profile.specs.Image.{Profile, accepted}
 use Rattle.profile.specs.Judging.{judge}
 use Rattle.profile.specs.Examples.{empty-profile}
 use Rattle.request.specs.Request.{Request, read-request}
@@ -17,12 +17,11 @@ use Rattle.session.specs.Session.{ready, waiting, finished, released, nothing-y
 use Rattle.session.specs.declared.Session.{Session}
 use Rattle.session.specs.declared.Opened.{Opened}
 use Rattle.session.specs.declared.Reported.{Reported}
-use Rattle.route.specs.Advance.{walk, advance}
+use Rattle.route.specs.Advance.{walk}
 use Rattle.route.specs.declared.Advanced.{Advanced}
 use Rattle.promises.specs.Reached.{Bytes, Reached, by-opening, by-advance, by-report}
-use Rattle.promises.specs.Walks.{Answers}
 use Rattle.promises.proofs.Next.{advance-walks}
-use Rattle.promises.proofs.Possible.{make, kept-parts, may-be, open-possible, advance-possible, report-possible}
+use Rattle.promises.proofs.Possible.{make, may-be, open-possible, advance-possible, report-possible}
 
 -- ---- calls never leave the records a session can have
 

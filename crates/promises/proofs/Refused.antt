@@ -1,21 +1,21 @@
 -- Demand 1: each refusal is that of the first line that holds, and a refusal changes nothing.
 use mathlib.Core.Bool.{Bool, true, false, not, _&&_}
 use mathlib.Core.Option.{Option, none, some}
-use mathlib.Core.Path.{_≡_, refl, sym, ap, subst}
+use mathlib.Core.Path.{_≡_, refl, sym, subst}
 use Prim.Native.Nat.{ℕ, zero, suc, _≤_, _<_}
 use native.Mathlib.Omega.{arith}
-use mathlib.Core.List.{List, [], _∷_, _++_}
-use lib.ListN.{length, drop, getElem?}
+use mathlib.Core.List.{List, [], _∷_}
+use lib.ListN.{length, getElem?}
 use lib.Dec.{T, leb, eqb, not-T, leb→le}
 use Rattle.octets.specs.Lists.{pick, same, total}
-use Rattle.octets.proofs.Tests.{differ, is-false, either, T-of}
+use Rattle.octets.proofs.Tests.{differ, is-false, T-of}
 use Rattle.profile.specs.Image.{Stored, Criterion, Profile, Judged, accepted, refused}
 use Rattle.profile.specs.Judging.{judge}
-use Rattle.profile.specs.Lookups.{checked, check, no-part, the-part, look-at, look-judged, its-server, its-information, server, information}
+use Rattle.profile.specs.Lookups.{checked, check, the-part, look-at, look-judged, its-server, its-information, server, information}
 use Rattle.profile.specs.declared.Checked.{Checked}
 use Rattle.profile.specs.declared.Lookup.{Lookup}
 use Rattle.request.specs.Request.{Request, read-request}
-use Rattle.session.specs.Session.{possible, ready, waiting, fresh, unopened, open-session, stays, goes, after-report, report-session}
+use Rattle.session.specs.Session.{possible, ready, waiting, fresh, unopened, open-session, stays, after-report, report-session}
 use Rattle.session.specs.declared.Session.{Session}
 use Rattle.session.specs.declared.Opened.{Opened}
 use Rattle.session.specs.declared.Reported.{Reported}

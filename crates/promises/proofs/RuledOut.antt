@@ -11,7 +11,6 @@ use Rattle.rows.specs.Rows.{Given}
 use Rattle.route.specs.Advance.{advance, Advances}
 use Rattle.route.specs.Listing.{Listing, listing, Lists}
 use Rattle.route.specs.declared.Advanced.{Advanced}
-use Rattle.route.specs.declared.Listed.{Listed}
 
 -- ---- libraries
 

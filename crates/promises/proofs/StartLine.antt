@@ -1,5 +1,5 @@
 -- Method and URI are read from the start line alone: the same start line gives the same method and URI.
-use mathlib.Core.Bool.{Bool, true, false, not, _&&_}
+use mathlib.Core.Bool.{not, _&&_}
 use mathlib.Core.Option.{Option, none, some}
 use mathlib.Core.Path.{_≡_, sym, ap, _∙_, subst, refl}
 use Prim.Native.Nat.{ℕ}

@@ -1,5 +1,5 @@
 -- Demand 1: whatever the refusal, nothing is changed, counted or written.
-use mathlib.Core.Bool.{Bool, true, false, not, _&&_}
+use mathlib.Core.Bool.{not, _&&_}
 use mathlib.Core.Option.{Option, none, some}
 use mathlib.Core.Path.{_≡_, refl}
 use Prim.Native.Nat.{ℕ}
@@ -11,7 +11,6 @@ use Rattle.octets.proofs.Tests.{either}
 use Rattle.profile.specs.Image.{Stored, Criterion, Profile, Judged, accepted, refused}
 use Rattle.profile.specs.Judging.{judge}
 use Rattle.profile.specs.Lookups.{the-part, look-at, look-judged, its-server, its-information, server, information}
-use Rattle.profile.specs.declared.Lookup.{Lookup}
 use Rattle.request.specs.Request.{Request, read-request}
 use Rattle.session.specs.Session.{possible, ready, waiting, fresh, unopened, open-session, stays, goes, released, ended, after-report, report-session}
 use Rattle.session.specs.declared.Session.{Session}

@@ -7,7 +7,7 @@ use mathlib.Core.List.{List, [], _∷_}
 use lib.Dec.{T}
 use Rattle.octets.specs.Lists.{some-of}
 use Rattle.pattern.specs.Matching.{name-matches}
-use Rattle.profile.specs.Image.{Test, request-uri, method, header, session-case, description, Row, Profile, Judged, accepted}
+use Rattle.profile.specs.Image.{Test, request-uri, method, header, session-case, description, Row, Profile, accepted}
 use Rattle.profile.specs.Judging.{judge}
 use Rattle.request.specs.Cutting.{Cut, first-cut}
 use Rattle.request.specs.Request.{Request, Field, empty-line, head-lines, read-request}

@@ -1,5 +1,4 @@
 -- Any sequence of calls: what each is lent, what it answers, and what becomes of the sessions, which stand in a store.
-use mathlib.Core.Bool.{Bool}
 use Prim.Native.Nat.{ℕ}
 use mathlib.Core.List.{List, [], _∷_}
 use lib.Dec.{eqb}

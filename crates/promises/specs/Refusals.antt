@@ -6,8 +6,8 @@ use Prim.Native.Nat.{ℕ}
 use mathlib.Core.List.{List, [], _∷_}
 use lib.ListN.{length, getElem?}
 use lib.Dec.{T, leb, eqb}
-use Rattle.octets.specs.Lists.{pick, same}
-use Rattle.profile.specs.Image.{Criterion, Profile, Judged, accepted, refused}
+use Rattle.octets.specs.Lists.{same}
+use Rattle.profile.specs.Image.{Criterion, Judged, accepted, refused}
 use Rattle.profile.specs.Judging.{judge}
 use Rattle.profile.specs.declared.Lookup.{Lookup}
 use Rattle.request.specs.Request.{Request, read-request}

@@ -1,14 +1,14 @@
 -- How large what is read from a request can be: no more fields, values and lines than its bytes allow.
-use mathlib.Core.Bool.{Bool, true, false, not, _&&_, _||_}
-use mathlib.Core.Option.{Option, none, some}
+use mathlib.Core.Bool.{Bool, not, _&&_}
+use mathlib.Core.Option.{some}
 use mathlib.Core.Path.{_≡_, refl, ap}
-use Prim.Native.Nat.{ℕ, zero, suc, _+_, _*_, _≤_, _<_, zero-le, suc-le-suc}
+use Prim.Native.Nat.{ℕ, suc, _+_, _*_, _≤_, _<_, zero-le, suc-le-suc}
 use native.Mathlib.Nat.{le-refl, le-step, add-le-add}
 use native.Mathlib.Omega.{arith}
-use mathlib.Core.List.{List, [], _∷_, _++_, map}
+use mathlib.Core.List.{List, [], _∷_, map}
 use lib.ListN.{length, drop, length-append, length-drop, length-map}
 use lib.Dec.{T, leb, eqb, leb→le}
-use Rattle.octets.specs.Lists.{text, pick, every, only, total, empty, peek}
+use Rattle.octets.specs.Lists.{text, every, only, total, empty, peek}
 use Rattle.octets.specs.Option.{_>>=_, holds}
 use Rattle.octets.specs.Bytes.{token, white}
 use Rattle.octets.proofs.Tests.{either}
@@ -17,7 +17,7 @@ use Rattle.octets.proofs.Kept.{kept-le}
 use Rattle.request.specs.Cutting.{Cut, begins, first-cut, push, cut-by, cut-at}
 use Rattle.request.specs.Values.{trim-left, trim-right, trim, spaces, squeeze, reduced, plain, step, cuts, pieces, never-cut, values-of}
 use Rattle.request.specs.Request.{Request, Field, attach, continues, whole-fields, field, all-fields, head, head-lines, head-byte, paired, start-line, Start, empty-line, read-request}
-use Rattle.request.specs.Body.{Line, drop-cr, ended, line, lines, session-lines, request-lines}
+use Rattle.request.specs.Body.{Line, ended, line, lines, session-lines}
 
 -- ---- cutting makes nothing longer
 

@@ -1,5 +1,5 @@
 -- The lines of a body that are fields of a session description (document 01, "Body lines end at LF ..").
-use mathlib.Core.Bool.{Bool, _&&_}
+use mathlib.Core.Bool.{_&&_}
 use Prim.Native.Nat.{ℕ}
 use mathlib.Core.List.{List, [], _∷_, _++_}
 use lib.Dec.{eqb}

@@ -1,5 +1,5 @@
 -- A field's value as document 01 reads it: white space reduced, then cut at commas, each piece trimmed.
-use mathlib.Core.Bool.{Bool, true, false, _&&_}
+use mathlib.Core.Bool.{Bool, false, _&&_}
 use Prim.Native.Nat.{ℕ}
 use mathlib.Core.List.{List, [], _∷_, map}
 use lib.Dec.{eqb}

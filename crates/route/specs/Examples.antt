@@ -1,6 +1,6 @@
 -- The order of criteria, as worked examples over priorities alone. One list, one claim.
-use mathlib.Core.Bool.{Bool, true, false, _&&_}
-use mathlib.Core.Option.{Option, none, some}
+use mathlib.Core.Bool.{Bool, _&&_}
+use mathlib.Core.Option.{none}
 use Prim.Native.Nat.{ℕ}
 use mathlib.Core.List.{List, [], _∷_}
 use lib.Dec.{T, eqb}

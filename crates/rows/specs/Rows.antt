@@ -1,5 +1,5 @@
 -- When a row fits, and the trials it takes (document 01, "When a row, a trigger and a criterion fit" and the counts of "The session").
-use mathlib.Core.Bool.{Bool, true, false, not, _&&_, _||_}
+use mathlib.Core.Bool.{Bool, true, not, _&&_, _||_}
 use mathlib.Core.Option.{Option, none, some}
 use Prim.Native.Nat.{ℕ, _+_, _/_, _%_, _^_}
 use mathlib.Core.List.{List, [], _∷_}

@@ -1,14 +1,12 @@
 -- The laws by which the session's functions are proved, one for each answer.
 use mathlib.Core.Bool.{Bool, true, false, not, _&&_, _||_}
-use mathlib.Core.Path.{_≡_, refl, sym, ap, _∙_}
+use mathlib.Core.Path.{_≡_, sym, ap, _∙_}
 use Prim.Native.Nat.{ℕ, _≤_, _<_}
-use lib.Dec.{leb, ltb, eqb}
+use lib.Dec.{leb, eqb}
 use borrow.Author.Tests.{lt-leb, le-leb, lt-ltb, eq-eqb, ne-eqb, not-true, not-false}
 use Rattle.octets.specs.Lists.{pick}
-use Rattle.session.specs.Session.{nothing-yet, some-yet, by-forwarded, possible, fresh, unopened, open-session, with-state, goes, stays, after-report, report-session, ready, waiting, released, ended, Opens, Reports}
+use Rattle.session.specs.Session.{nothing-yet, some-yet, by-forwarded, possible, fresh, unopened, open-session, with-state, goes, stays, after-report, report-session, ready, released, Opens, Reports}
 use Rattle.session.specs.declared.Session.{Session}
-use Rattle.session.specs.declared.Opened.{Opened}
-use Rattle.session.specs.declared.Reported.{Reported}
 
 -- ---- which records a session can have
 

@@ -4,18 +4,13 @@ use lib.ListN.{List·getD-eq-default}
 use borrow.Author.Needs.{needs}
 use Rattle.octets.proofs.byte_at.Statement.{statement}
 use Rattle.octets.proofs.byte_at.Tie as tie
-use Rattle.octets.proofs.byte_at.Reads as reads
-use Rattle.octets.proofs.byte_at.Lts as lts
 
--- src/lib.rt:30:16
 shared-slice-read-result : tie.Need-shared-slice-read-result
 shared-slice-read-result c = search needs
 
--- src/lib.rt:30:9
 returns : tie.Need-returns
 returns c = search needs
 
--- src/lib.rt:26:1
 returns-2 : tie.Need-returns-2
 returns-2 c = sym (List·getD-eq-default (now (c .before .args .s)) 0 (c .if1 .left))
 

@@ -4,8 +4,6 @@ use borrow.Author.Needs.{needs}
 use Rattle.octets.proofs.Equal.{Alike, same-long, alike-first, alike-next, alike-no, alike-end}
 use Rattle.octets.proofs.same_bytes.Statement.{statement}
 use Rattle.octets.proofs.same_bytes.Tie as tie
-use Rattle.octets.proofs.same_bytes.Reads as reads
-use Rattle.octets.proofs.same_bytes.Lts as lts
 
 abbrev Inv-loop : tie.InvT-loop
 Inv-loop a b i₀ i = Alike a b i
@@ -13,39 +11,30 @@ Inv-loop a b i₀ i = Alike a b i
 abbrev μ-loop : tie.MeasureT-loop
 μ-loop a b i₀ i = length a - i
 
--- src/lib.rt:63:9
 returns : tie.Need-returns Inv-loop μ-loop
 returns c = search same-long
 
--- src/lib.rt:66:5
 loop-holds : tie.Need-loop-holds Inv-loop μ-loop
 loop-holds c = search alike-first
 
--- src/lib.rt:67:17
 shared-slice-read-x : tie.Need-shared-slice-read-x Inv-loop μ-loop
 shared-slice-read-x c = search needs
 
--- src/lib.rt:68:17
 shared-slice-read-y : tie.Need-shared-slice-read-y Inv-loop μ-loop
 shared-slice-read-y c = search needs
 
--- src/lib.rt:69:9
 add-i : tie.Need-add-i Inv-loop μ-loop
 add-i c = search needs
 
--- src/lib.rt:71:13
 returns-2 : tie.Need-returns-2 Inv-loop μ-loop
 returns-2 c = search alike-no
 
--- src/lib.rt:66:5
 loop-less : tie.Need-loop-less Inv-loop μ-loop
 loop-less c = search needs
 
--- src/lib.rt:66:5
 loop-again : tie.Need-loop-again Inv-loop μ-loop
 loop-again c = search alike-next
 
--- src/lib.rt:59:1
 returns-3 : tie.Need-returns-3 Inv-loop μ-loop
 returns-3 c = search alike-end
 
