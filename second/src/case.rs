@@ -1,0 +1,208 @@
+//! A case is one call with all its inputs; an answer is everything the call hands back.
+
+use crate::calls;
+use crate::profile::Fault;
+use crate::session::{self, Session};
+use crate::twist::{twisted, Twist};
+
+#[derive(Clone, Copy, PartialEq, Eq, Debug)]
+pub enum Call {
+    Check,
+    Open,
+    Advance,
+    Report,
+    List,
+    Server,
+    Information,
+}
+
+pub const CALLS: [Call; 7] =
+    [Call::Check, Call::Open, Call::Advance, Call::Report, Call::List, Call::Server, Call::Information];
+
+impl Call {
+    /// The call's `uint32_t` parameters in the order of the C prototype; `*` marks a lent one.
+    pub fn numbers(self) -> &'static [&'static str] {
+        match self {
+            Call::Check => &["*place"],
+            Call::Open => &["wanted_case", "*session_case", "*state", "*forwarded", "*last", "*handling"],
+            Call::Advance => &[
+                "session_case",
+                "*state",
+                "*forwarded",
+                "*last",
+                "*handling",
+                "*place",
+                "*outcome",
+                "*criterion",
+                "*priority",
+                "*examined",
+                "*trials",
+            ],
+            Call::Report => &["session_case", "*state", "forwarded", "last", "handling", "report"],
+            Call::List => &["session_case", "registration_type", "*place", "*count", "*examined", "*trials"],
+            Call::Server => &["criterion", "*place", "*start", "*length"],
+            Call::Information => &["criterion", "*place", "*present", "*start", "*length"],
+        }
+    }
+}
+
+#[derive(Clone, PartialEq, Eq, Debug)]
+pub struct Case {
+    pub call: Call,
+    /// For the reader of a difference.
+    pub label: String,
+    pub image: Vec<u8>,
+    pub request: Vec<u8>,
+    /// The lent list before the call.
+    pub list: Vec<u8>,
+    /// Every number parameter before the call, lent ones with what they hold.
+    pub numbers: Vec<u32>,
+}
+
+#[derive(Clone, PartialEq, Eq, Debug)]
+pub struct Answer {
+    pub number: u32,
+    pub list: Vec<u8>,
+    /// Every number parameter after the call.
+    pub numbers: Vec<u32>,
+}
+
+pub fn answer(case: &Case) -> Answer {
+    let mut list = case.list.clone();
+    let mut numbers = case.numbers.clone();
+    let number = match case.call {
+        Call::Check => check(case, &mut numbers),
+        Call::Open => open(&mut numbers),
+        Call::Advance => advance(case, &mut numbers),
+        Call::Report => report(&mut numbers),
+        Call::List => listing(case, &mut list, &mut numbers),
+        Call::Server => server(case, &mut numbers),
+        Call::Information => information(case, &mut numbers),
+    };
+    Answer { number, list, numbers }
+}
+
+fn check(case: &Case, numbers: &mut [u32]) -> u32 {
+    let Fault { number, place } = calls::check(&case.image);
+    numbers[0] = place as u32;
+    number
+}
+
+fn open(numbers: &mut [u32]) -> u32 {
+    let (number, session) = match session::open(numbers[0]) {
+        Ok(session) => (0, session),
+        Err(session) => (8, session),
+    };
+    if twisted(Twist::RefusedOpeningWritesNothing) && number != 0 {
+        return number;
+    }
+    numbers[1] = session.case;
+    numbers[2..6].copy_from_slice(&rest_of(session));
+    number
+}
+
+/// A session but for its case, as the calls lend it.
+fn rest_of(session: Session) -> [u32; 4] {
+    [session.state, session.forwarded, session.last, session.handling]
+}
+
+fn session_of(numbers: &[u32]) -> Session {
+    Session {
+        case: numbers[0],
+        state: numbers[1],
+        forwarded: numbers[2],
+        last: numbers[3],
+        handling: numbers[4],
+    }
+}
+
+fn advance(case: &Case, numbers: &mut [u32]) -> u32 {
+    let advanced = calls::advance(&case.image, &case.request, session_of(numbers));
+    if twisted(Twist::RefusedAdvanceKeepsCounts) && advanced.is_err() {
+        numbers[5..9].fill(0);
+    } else {
+        numbers[5..].fill(0);
+    }
+    match advanced {
+        Ok(advanced) => {
+            numbers[1..5].copy_from_slice(&rest_of(advanced.session));
+            numbers[6] = advanced.outcome;
+            numbers[7] = advanced.criterion;
+            numbers[8] = advanced.priority;
+            numbers[9] = advanced.counts.examined;
+            numbers[10] = advanced.counts.trials;
+            0
+        }
+        Err(fault) => {
+            numbers[5] = fault.place as u32;
+            if twisted(Twist::RefusedAdvanceFinishes) {
+                numbers[1] = session::FINISHED;
+            }
+            fault.number
+        }
+    }
+}
+
+fn report(numbers: &mut [u32]) -> u32 {
+    match session::report(&session_of(numbers), numbers[5]) {
+        Ok(state) => {
+            numbers[1] = state;
+            0
+        }
+        Err(number) => {
+            if twisted(Twist::RefusedReportEnds) {
+                numbers[1] = session::ENDED;
+            }
+            number
+        }
+    }
+}
+
+fn listing(case: &Case, list: &mut [u8], numbers: &mut [u32]) -> u32 {
+    numbers[2..].fill(0);
+    match calls::list(&case.image, &case.request, numbers[0], numbers[1], list) {
+        Ok(listed) => {
+            numbers[3..].copy_from_slice(&[listed.count, listed.counts.examined, listed.counts.trials]);
+            0
+        }
+        Err(fault) => {
+            numbers[2] = fault.place as u32;
+            if twisted(Twist::CountOnTwelve) && fault.number == 12 {
+                numbers[3] = list.len() as u32;
+            }
+            fault.number
+        }
+    }
+}
+
+fn server(case: &Case, numbers: &mut [u32]) -> u32 {
+    let found = calls::server(&case.image, numbers[0]);
+    if !(twisted(Twist::RefusedLookupKeepsPart) && found.is_err()) {
+        numbers[1..].fill(0);
+    }
+    match found {
+        Ok(part) => {
+            numbers[2..].copy_from_slice(&[part.start as u32, part.len() as u32]);
+            0
+        }
+        Err(fault) => {
+            numbers[1] = fault.place as u32;
+            fault.number
+        }
+    }
+}
+
+fn information(case: &Case, numbers: &mut [u32]) -> u32 {
+    numbers[1..].fill(0);
+    match calls::information(&case.image, numbers[0]) {
+        Ok(Some(part)) => {
+            numbers[2..].copy_from_slice(&[1, part.start as u32, part.len() as u32]);
+            0
+        }
+        Ok(None) => 0,
+        Err(fault) => {
+            numbers[1] = fault.place as u32;
+            fault.number
+        }
+    }
+}

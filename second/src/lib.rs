@@ -1,0 +1,21 @@
+//! The second program: answers the calls of document 01, makes cases, and compares.
+
+pub mod bracket;
+pub mod calls;
+pub mod case;
+pub mod criterion;
+pub mod files;
+pub mod image;
+pub mod maker;
+pub mod matching;
+#[cfg(feature = "twists")]
+pub mod mutants;
+pub mod pattern;
+pub mod profile;
+pub mod request;
+pub mod row;
+pub mod sequence;
+pub mod session;
+pub mod show;
+pub mod token;
+pub mod twist;

@@ -1,0 +1,136 @@
+//! What the made cases must hold: every limit, every number, every point, enough forwards.
+
+use second::case::{answer, Call};
+use second::maker::{self, random::Random};
+use second::twist::ALL;
+use std::collections::BTreeSet;
+
+/// The reference outputs of splitmix64 for this seed.
+#[test]
+fn the_numbers_are_splitmix64() {
+    let mut random = Random::new(1_234_567);
+    let expected = [6_457_827_717_110_365_317, 3_203_168_211_198_807_973, 9_817_491_932_198_370_423];
+    assert_eq!([random.draw(), random.draw(), random.draw()], expected);
+}
+
+#[test]
+fn one_seed_one_file() {
+    assert!(maker::random(3, 400) == maker::random(3, 400));
+    assert!(maker::random(3, 400) != maker::random(4, 400));
+    assert_eq!(maker::random(3, 401).len(), 401);
+}
+
+#[test]
+fn a_third_of_the_random_advances_forward() {
+    let cases = maker::random(11, 20_000);
+    let advances: Vec<_> = cases.iter().filter(|case| case.call == Call::Advance).collect();
+    let forwards = advances.iter().filter(|case| answer(case).numbers[6] == 1).count();
+    assert!(advances.len() > 4_000);
+    assert!(forwards * 3 >= advances.len(), "{forwards} of {}", advances.len());
+    let routes = advances.iter().filter(|case| answer(case).numbers[6] == 2).count();
+    assert!(routes * 10 >= advances.len(), "{routes} of {}", advances.len());
+}
+
+/// Walks go further than one forward, and lists are longer than one.
+#[test]
+fn walks_and_lists_are_long() {
+    let cases = maker::random(12, 20_000);
+    let second = cases.iter().filter(|case| case.call == Call::Advance && case.numbers[2] == 1);
+    assert!(second.filter(|case| answer(case).numbers[6] == 1).count() > 300);
+    let lists = cases.iter().filter(|case| case.call == Call::List);
+    assert!(lists.filter(|case| answer(case).numbers[3] > 1).count() > 300);
+}
+
+#[test]
+fn every_number_of_every_call() {
+    let given: BTreeSet<(u32, u32)> =
+        maker::fixed().iter().map(|case| (case.call as u32, answer(case).number)).collect();
+    let image = [0, 1, 2, 3, 4, 5, 6];
+    let expected = [
+        (Call::Check, image.to_vec()),
+        (Call::Open, vec![0, 8]),
+        (Call::Advance, [&image[..], &[7, 10, 11]].concat()),
+        (Call::Report, vec![0, 8, 10]),
+        (Call::List, [&image[..], &[7, 8, 9, 11, 12]].concat()),
+        (Call::Server, [&image[..], &[13]].concat()),
+        (Call::Information, [&image[..], &[13]].concat()),
+    ];
+    let expected: BTreeSet<(u32, u32)> = expected
+        .iter()
+        .flat_map(|(call, numbers)| numbers.iter().map(|&number| (*call as u32, number)))
+        .collect();
+    assert_eq!(given, expected);
+}
+
+/// The readings marked H.
+const MARKED: &[&str] = &[
+    "P1", "P3", "P6", "P7", "P9", "I1", "I2", "I3", "I5", "I6", "I9", "R1", "R13", "F2", "F7", "S2", "S3",
+    "S5", "L5",
+];
+
+#[test]
+fn every_marked_point_has_a_case() {
+    let cases = maker::points::cases();
+    for point in MARKED {
+        let prefix = format!("{point}:");
+        assert!(cases.iter().any(|case| case.label.starts_with(&prefix)), "{point}");
+    }
+}
+
+/// Each taken the other way, among the mutants.
+#[test]
+fn every_marked_point_has_a_twist() {
+    for point in MARKED {
+        let prefix = format!("{point}:");
+        assert!(ALL.iter().any(|(_, text)| text.starts_with(&prefix)), "{point}");
+    }
+}
+
+/// On each side of a limit one answer is a refusal and the other is not.
+#[test]
+fn every_limit_from_both_sides() {
+    let cases = maker::boundaries::cases();
+    let number = |label: &str, call: Call| {
+        let label = format!("limit: {label}");
+        let case = cases.iter().find(|case| case.label == label && case.call == call);
+        answer(case.unwrap_or_else(|| panic!("no case {label}"))).number
+    };
+    let images = [
+        ("1024 strings", "1025 strings", 4),
+        ("a string of 1024 bytes", "a string of 1025 bytes", 4),
+        ("2048 rows", "2049 rows", 4),
+        ("64 criteria", "65 criteria", 4),
+        ("32 rows in a trigger", "33 rows in a trigger", 4),
+        ("8 memberships of a row", "9 memberships of a row", 4),
+        ("60 elements, plain", "61 elements, plain", 5),
+        ("image of 32768 bytes", "image of 32769 bytes", 1),
+    ];
+    for (within, beyond, refusal) in images {
+        assert_eq!((number(within, Call::Check), number(beyond, Call::Check)), (0, refusal), "{beyond}");
+    }
+    let (within, beyond) = ("16384 memberships counted", "16385 memberships counted");
+    assert_eq!((number(within, Call::Check), number(beyond, Call::Check)), (2, 4));
+    for what in ["value", "body", "blanks", "commas"] {
+        assert_eq!(number(&format!("request of 65535 bytes by its {what}"), Call::Advance), 0);
+        assert_eq!(number(&format!("request of 65536 bytes by its {what}"), Call::Advance), 7);
+    }
+}
+
+/// Nothing of the largest images and requests is refused.
+#[test]
+fn masses_are_answered() {
+    for case in maker::masses::cases() {
+        assert_eq!(answer(&case).number, 0, "{}", case.label);
+    }
+}
+
+/// A lent number is written or kept, never left as the mark it held.
+#[test]
+fn no_mark_stays() {
+    for case in maker::fixed().iter().chain(&maker::random(5, 5_000)) {
+        let names = case.call.numbers();
+        for (name, number) in names.iter().zip(answer(case).numbers) {
+            assert!(number & 0xFFFF_FF00 != 0xDEAD_BE00, "{} {name}", case.label);
+        }
+    }
+}
