@@ -156,8 +156,8 @@ pub bit-ext : (w m n : ℕ) → m < 2 ^ w → n < 2 ^ w → ((k : ℕ) → k < w
 bit-ext zero m n hm hn e = omega arith
 bit-ext (suc w) m n hm hn e =
     let halves : m / 2 ≡ n / 2 =
-        bit-ext w (m / 2) (n / 2) (half-lt w m hm) (half-lt w n hn)
-        (λ k h. half-bit m k ∙ e (suc k) (omega arith) ∙ sym (half-bit n k))
+    bit-ext w (m / 2) (n / 2) (half-lt w m hm) (half-lt w n hn)
+    (λ k h. half-bit m k ∙ e (suc k) (omega arith) ∙ sym (half-bit n k))
     in
     let odds : m % 2 ≡ n % 2 = odd-of m n (e 0 (omega arith)) in
     omega (arith, div-add-mod' m 2, div-add-mod' n 2)
@@ -206,7 +206,7 @@ bit-drop n p k e = bit-xor n (2 ^ p) k ∙ ap (λ (x : Bool). pick x (not (bit n
 pub drop-lt : (n p : ℕ) → bit n p ≡ true → bitXor n (2 ^ p) < n
 drop-lt n p e =
     let a : bitAnd n (2 ^ p) ≡ 2 ^ p =
-        bit-ext (suc p) (bitAnd n (2 ^ p)) (2 ^ p) (lt-of-le-of-lt (and-le-r n (2 ^ p)) (pow-lt (lt-suc p))) (pow-lt (lt-suc p)) (λ k h. same k)
+    bit-ext (suc p) (bitAnd n (2 ^ p)) (2 ^ p) (lt-of-le-of-lt (and-le-r n (2 ^ p)) (pow-lt (lt-suc p))) (pow-lt (lt-suc p)) (λ k h. same k)
     in
     omega (arith, xor-add-and n (2 ^ p), a, pow-pos p)
   where

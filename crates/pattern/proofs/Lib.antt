@@ -1,2 +1,5 @@
 pub mod Countdown
+pub mod Drawing
 pub mod Meaning
+pub mod Places
+pub mod Words

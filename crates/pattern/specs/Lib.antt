@@ -1,4 +1,6 @@
 pub mod Examples
 pub mod Matching
 pub mod Pattern
+pub mod Places
 pub mod Reading
+pub mod Sets
