@@ -5,11 +5,11 @@ use mathlib.Core.List.{List, [], _∷_}
 use Prim.Native.Nat.{ℕ, suc, _+_, _<_, _≤_}
 use native.Mathlib.Omega.{arith}
 use native.Mathlib.Numerals.{add-one}
-use lib.Dec.{ltb}
+use lib.Dec.{eqb, ltb}
 use lib.ListN.{length, getD, drop, drop-of-length-le}
 use lib.Seq.{drop-cons}
-use borrow.Author.Tests.{ltb-true, ltb-false}
-use Rattle.octets.specs.Lists.{peek}
+use borrow.Author.Tests.{ltb-true, ltb-false, eq-eqb, ne-eqb}
+use Rattle.octets.specs.Lists.{pick, peek}
 
 pub peek-in : (s : List ℕ) (i : ℕ) → i < length s → getD s i 0 ≡ peek (drop i s)
 peek-in s i h = sym (ap peek (drop-cons s i 0 h))
@@ -27,3 +27,10 @@ peek-inside s i n = go (ltb i (length s)) refl
 
 pub drop-at : (s : List ℕ) (i : ℕ) → i < length s → drop i s ≡ getD s i 0 ∷ drop (i + 1) s
 drop-at s i h = drop-cons s i 0 h ∙ ap (λ (n : ℕ). getD s i 0 ∷ drop n s) (sym (add-one i))
+
+-- the byte that stands there decides
+pub peek-yes : {A : Type 0} (s : List ℕ) (i next c : ℕ) (x y : A) → next ≡ peek (drop i s) → next ≡ c → x ≡ pick (eqb (peek (drop i s)) c) x y
+peek-yes s i next c x y n e = ap (λ (t : Bool). pick t x y) (sym (eq-eqb (peek (drop i s)) c (sym n ∙ e)))
+
+pub peek-no : {A : Type 0} (s : List ℕ) (i next c : ℕ) (x y : A) → next ≡ peek (drop i s) → (next ≡ c → ⊥) → y ≡ pick (eqb (peek (drop i s)) c) x y
+peek-no s i next c x y n e = ap (λ (t : Bool). pick t x y) (sym (ne-eqb (peek (drop i s)) c (λ z. e (n ∙ z))))

@@ -6,7 +6,8 @@ ghost use Prim.Native.Nat.{ℕ, _+_, _≤_, _<_};
 ghost use lib.Dec.{eqb};
 ghost use lib.ListN.{length, getD, drop};
 ghost use Rattle.octets.specs.Bytes.{within};
-ghost use Rattle.octets.specs.Lists.{text, some-of, peek};
+ghost use Rattle.octets.specs.Lists.{text, pick, some-of, peek};
+ghost use Rattle.pattern.specs.Answers.{is-pattern};
 ghost use Rattle.pattern.specs.Pattern.{Range, Atom, byte, dot, list};
 ghost use Rattle.pattern.specs.Places.{map-got, items-of, body-of, ItemAt, PieceAt};
 ghost use Rattle.pattern.specs.Reading.{range, item, bracket, escaped, atom};
@@ -289,4 +290,50 @@ fn atom_at(s: &[u8], i: usize, first: bool, build: bool) -> Piece
     }
     let set = lone(build, b);
     Piece { end: i + 1, set }
+}
+
+// Behind an atom that ends at `end`, and its `*`.
+fn behind(s: &[u8], end: usize) -> usize
+    ensures { λ r. ⌜ r ≡ pick (eqb (peek (drop end (now (s .entry)))) 42) (end + 1) end ⌝ }
+{
+    if peek_at(s, end) == 42 {
+        return end + 1;
+    }
+    end
+}
+
+// "`^` as anchor only first"
+fn start_at(s: &[u8]) -> usize
+    ensures { λ r. ⌜ r ≡ pick (eqb (peek (now (s .entry))) 94) 1 0 ⌝ }
+{
+    if peek_at(s, 0) == 94 {
+        return 1;
+    }
+    0
+}
+
+// Whether a string is a pattern. It is read once, and no set is made.
+pub fn is_pattern(s: &[u8]) -> bool
+    ensures { λ r. ⌜ r ≡ is-pattern (now (s .entry)) ⌝ }
+{
+    if s.len() == 0 {
+        return false;
+    }
+    let mut i = start_at(s);
+    let mut first = true;
+    let mut n: usize = 0;
+    while i < s.len() {
+        if (s[i] == 36) & (i + 1 == s.len()) {
+            return n <= 60;
+        }
+        let a = atom_at(s, i, first, false);
+        let end = a.end;
+        if end == 0 {
+            return false;
+        }
+        i = behind(s, end);
+        first = false;
+        n += 1;
+    }
+    n <= 60
 }
