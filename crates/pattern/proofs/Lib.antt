@@ -6,4 +6,5 @@ pub mod Items
 pub mod Listing
 pub mod Meaning
 pub mod Places
+pub mod Stepping
 pub mod Words

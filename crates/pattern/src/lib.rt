@@ -8,6 +8,7 @@ ghost use lib.ListN.{length, getD, drop};
 ghost use Rattle.octets.specs.Bytes.{within};
 ghost use Rattle.octets.specs.Lists.{text, pick, some-of, peek};
 ghost use Rattle.pattern.specs.Answers.{is-pattern};
+ghost use Rattle.pattern.specs.Machine.{Stepped, Leftmost, first-mask, last-mask, null-at, lower-as, upper-as, machine-of};
 ghost use Rattle.pattern.specs.Pattern.{Range, Atom, byte, dot, list};
 ghost use Rattle.pattern.specs.Places.{map-got, items-of, body-of, ItemAt, PieceAt};
 ghost use Rattle.pattern.specs.Reading.{range, item, bracket, escaped, atom};
@@ -336,4 +337,66 @@ pub fn is_pattern(s: &[u8]) -> bool
         n += 1;
     }
     n <= 60
+}
+
+// ---- The matcher: a machine of at most 60 positions, a bit for each. It knows no edition of patterns.
+
+// Which positions may begin a part, at the text's start or elsewhere; which may end one, at the text's end or elsewhere; and
+// whether the empty part fits: as the whole text, at its start, at its end, or between.
+pub struct Shape {
+    pub size: usize,
+    pub start: u64,
+    pub inner: u64,
+    pub ends: u64,
+    pub stops: u64,
+    pub whole: bool,
+    pub head: bool,
+    pub tail: bool,
+    pub middle: bool,
+}
+
+// Positions that are live before a byte, and those that may stand before one of them.
+pub struct Front {
+    pub live: u64,
+    pub next: u64,
+}
+
+fn has_either(set: [u64; 4], x: u8, y: u8) -> bool
+    ensures { λ r. ⌜ r ≡ (in-set set x || in-set set y) ⌝ }
+{
+    if has(set, x) {
+        return true;
+    }
+    if x == y {
+        return false;
+    }
+    has(set, y)
+}
+
+// Of the candidates, the positions that meet a byte whose two forms are x and y. Only the candidates are looked at.
+fn step(
+    sets: &[[u64; 4]; 60],
+    before: &[u64; 60],
+    size: usize,
+    candidates: u64,
+    x: u8,
+    y: u8,
+) -> Front
+    requires { ⌜ size ≤ 60 ⌝ }
+    ensures { λ r. ⌜ Stepped (now (sets .entry)) (now (before .entry)) size candidates x y 0 (r .live) (r .next) ⌝ }
+{
+    let mut left = candidates;
+    let mut live: u64 = 0;
+    let mut next: u64 = 0;
+    while left != 0 {
+        let p = u64::trailing_zeros(left) as usize;
+        left = left ^ 1 << p;
+        if p < size {
+            if has_either(sets[p], x, y) {
+                live = live | 1 << p;
+                next = next | before[p];
+            }
+        }
+    }
+    Front { live, next }
 }
