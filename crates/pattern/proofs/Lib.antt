@@ -1,4 +1,5 @@
 pub mod Atoms
+pub mod Choosing
 pub mod Countdown
 pub mod Drawing
 pub mod Elements
@@ -6,5 +7,6 @@ pub mod Items
 pub mod Listing
 pub mod Meaning
 pub mod Places
+pub mod Scan
 pub mod Stepping
 pub mod Words

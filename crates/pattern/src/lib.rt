@@ -3,6 +3,7 @@ ghost use mathlib.Core.Path.{_≡_};
 ghost use mathlib.Core.Bool.{Bool, true, false, not, _&&_, _||_};
 ghost use mathlib.Core.List.{List, [], _∷_, _++_};
 ghost use Prim.Native.Nat.{ℕ, _+_, _≤_, _<_};
+ghost use lib.Bits.{bitAnd};
 ghost use lib.Dec.{eqb};
 ghost use lib.ListN.{length, getD, drop};
 ghost use Rattle.octets.specs.Bytes.{within};
@@ -399,4 +400,102 @@ fn step(
         }
     }
     Front { live, next }
+}
+
+fn lower_form(fold: bool, b: u8) -> u8
+    ensures { λ r. ⌜ r ≡ lower-as fold b ⌝ }
+{
+    if fold {
+        return octets::lower_of(b);
+    }
+    b
+}
+
+fn upper_form(fold: bool, b: u8) -> u8
+    ensures { λ r. ⌜ r ≡ upper-as fold b ⌝ }
+{
+    if fold {
+        return octets::upper_of(b);
+    }
+    b
+}
+
+fn last_of(h: Shape, end: bool) -> u64
+    ensures { λ r. ⌜ r ≡ last-mask h end ⌝ }
+{
+    if end {
+        return h.ends;
+    }
+    h.stops
+}
+
+fn first_of(h: Shape, start: bool) -> u64
+    ensures { λ r. ⌜ r ≡ first-mask h start ⌝ }
+{
+    if start {
+        return h.start;
+    }
+    h.inner
+}
+
+// Whether the empty part fits.
+fn empty_fits(h: Shape, start: bool, end: bool) -> bool
+    ensures { λ r. ⌜ r ≡ null-at h start end ⌝ }
+{
+    if start {
+        if end {
+            return h.whole;
+        }
+        return h.head;
+    }
+    if end {
+        return h.tail;
+    }
+    h.middle
+}
+
+// Whether a part begins here.
+fn begins(h: Shape, start: bool, end: bool, live: u64) -> bool
+    ensures { λ r. ⌜ r ≡ (null-at h start end || not (eqb (bitAnd (first-mask h start) live) 0)) ⌝ }
+{
+    if empty_fits(h, start, end) {
+        return true;
+    }
+    first_of(h, start) & live != 0
+}
+
+// The text's end, where the empty part fits there, or one above it.
+fn end_place(h: Shape, n: usize) -> usize
+    requires { ⌜ n < 9223372036854775808 ⌝ }
+    ensures { λ r. ⌜ r ≡ pick (null-at h (eqb n 0) true || not (eqb (bitAnd (first-mask h (eqb n 0)) 0) 0)) n (n + 1) ⌝ }
+{
+    if begins(h, n == 0, true, 0) {
+        return n;
+    }
+    n + 1
+}
+
+// The smallest place at which a part of the text fits, or one above its length: a scan from the end, so that what is live before
+// a byte follows from what is live behind it, and the last place found is the smallest.
+fn leftmost(h: Shape, sets: &[[u64; 4]; 60], before: &[u64; 60], fold: bool, text: &[u8]) -> usize
+    requires { ⌜ h .size ≤ 60 ⌝ }
+    ensures { λ r. ⌜ Leftmost (machine-of h (now (sets .entry)) (now (before .entry)) fold) (now (text .entry)) r ⌝ }
+{
+    let n = text.len();
+    let size = h.size;
+    let mut best = end_place(h, n);
+    let mut next: u64 = 0;
+    let mut i = n;
+    while 0 < i {
+        let stop = last_of(h, i == n);
+        i -= 1;
+        let x = lower_form(fold, text[i]);
+        let y = upper_form(fold, text[i]);
+        let f = step(sets, before, size, next | stop, x, y);
+        next = f.next;
+        if begins(h, i == 0, false, f.live) {
+            best = i;
+        }
+    }
+    best
 }
