@@ -41,7 +41,7 @@ empty-at s i h = go (ltb i (length s)) refl
 pub star-inside : (s : List ℕ) (e next : ℕ) → next ≡ peek (drop e s) → next ≡ 42 → e < length s
 star-inside s e next n q = peek-inside s e (λ z. let y : _≡_ {A = ℕ} 42 256 = sym q ∙ n ∙ z in absurd (omega arith))
 
-behind-le : (s : List ℕ) (e : ℕ) → e ≤ length s → pick (eqb (peek (drop e s)) 42) (e + 1) e ≤ length s
+pub behind-le : (s : List ℕ) (e : ℕ) → e ≤ length s → pick (eqb (peek (drop e s)) 42) (e + 1) e ≤ length s
 behind-le s e h = go (eqb (peek (drop e s)) 42) refl
   where
     go : (t : Bool) → eqb (peek (drop e s)) 42 ≡ t → pick t (e + 1) e ≤ length s
@@ -115,7 +115,7 @@ module _ (s : List ℕ) (i : ℕ) (first : Bool) (h : i < length s) where
 abbrev pub start-of : List ℕ → ℕ
 start-of s = pick (eqb (peek s) 94) 1 0
 
-abbrev finished : Bool → Option Body → Option Pattern
+abbrev pub finished : Bool → Option Body → Option Pattern
 finished start o = o >>= (λ b. holds (leb (length (b .parts)) 60) >>= (λ x. some (record { at-start = start; elems = b .parts; at-end = b .anchored })))
 
 pub read-is : (s : List ℕ) → (length s ≡ 0 → ⊥) → read-pattern s ≡ finished (eqb (peek s) 94) (body-of true (drop (start-of s) s))
@@ -160,7 +160,7 @@ count-all start (some b) = go (leb (length (b .parts)) 60) ∙ ap (λ (n : ℕ).
     go true = refl
     go false = refl
 
-start-le : (s : List ℕ) → (length s ≡ 0 → ⊥) → start-of s ≤ length s
+pub start-le : (s : List ℕ) → (length s ≡ 0 → ⊥) → start-of s ≤ length s
 start-le s n = either (λ (k : ℕ). k ≤ length s) (eqb (peek s) 94) 1 0 (omega arith) (omega arith)
 
 pub count-start : (s : List ℕ) (i : ℕ) → (length s ≡ 0 → ⊥) → i ≡ start-of s → Counted s i true 0

@@ -3,10 +3,12 @@ pub mod Choosing
 pub mod Countdown
 pub mod Drawing
 pub mod Elements
+pub mod Filling
 pub mod Items
 pub mod Listing
 pub mod Meaning
 pub mod Places
+pub mod Positions
 pub mod Scan
 pub mod Stepping
 pub mod Words

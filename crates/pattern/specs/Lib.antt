@@ -4,5 +4,6 @@ pub mod Machine
 pub mod Matching
 pub mod Pattern
 pub mod Places
+pub mod Prepared
 pub mod Reading
 pub mod Sets
