@@ -17,7 +17,7 @@ use Rattle.octets.proofs.Tests.{T-of}
 use Rattle.pattern.specs.Answers.{was-read, is-pattern}
 use Rattle.pattern.specs.Pattern.{Atom, Elem, Pattern}
 use Rattle.pattern.specs.Places.{map-got, body-of, PieceAt}
-use Rattle.pattern.specs.Prepared.{starred, atom-of, no-marks, mark, before-at, marks, sets-of, befores, sets-after, befores-after, marks-of, ends-anchored, shape-by, no-shape, shape-of, FilledFor, Prepared}
+use Rattle.pattern.specs.Prepared.{starred, atom-of, no-marks, mark, before-at, marks, sets-of, befores, sets-after, befores-after, marks-of, ends-anchored, shape-by, no-shape, shape-of, FilledFor, Prepared, Ready}
 use Rattle.pattern.specs.Reading.{atom, elem, Body, read-pattern}
 use Rattle.pattern.specs.Sets.{drawn}
 use Rattle.pattern.specs.declared.Filled.{Filled}
@@ -25,6 +25,7 @@ use Rattle.pattern.specs.declared.Marks.{Marks}
 use Rattle.pattern.specs.declared.Piece.{Piece}
 use Rattle.pattern.specs.declared.Shape.{Shape}
 use Rattle.pattern.proofs.Elements.{with-elem, Step, body-end, body-last, body-lost, body-more, start-of, finished, read-is, start-le, behind-le, count-empty}
+use Rattle.pattern.proofs.Positions.{at-bit}
 
 -- ---- what was read
 
@@ -284,3 +285,23 @@ module _ (p : List ℕ) (r : Shape) (old-sets : List (List ℕ)) (old-before : L
         lent-sets = g .lent-sets;
         lent-before = g .lent-before;
       }
+
+pub prepared-ready : (p : List ℕ) (h : Shape) (old-sets sets : List (List ℕ)) (old-before before : List ℕ) → Prepared p h old-sets sets old-before before
+    → Ready p h sets before
+prepared-ready p h old-sets sets old-before before q = record { old-sets = old-sets; old-before = old-before; prepared = q }
+
+-- a pattern has at most 60 positions
+size-few : (p : List ℕ) (o : Option Pattern) → read-pattern p ≡ o → shape-of o .size ≤ 60
+unfolding is-pattern
+size-few p none e = omega arith
+size-few p (some x) e =
+    let y : is-pattern p ≡ true = ap was-read e in
+    let w = whole-of p (λ k. true≢false (sym y ∙ sym (count-empty p k))) y in
+    let q : _≡_ {A = Option Pattern} (some x) (some (record { at-start = eqb (peek p) 94; elems = w .body .parts; at-end = w .body .anchored })) = sym e ∙ w .is in
+    let z : x ≡ record { at-start = eqb (peek p) 94; elems = w .body .parts; at-end = w .body .anchored } = cc in
+    let n : length (x .elems) ≡ length (w .body .parts) = ap (λ (k : Pattern). length (k .elems)) z in
+    let f : length (w .body .parts) ≤ 60 = w .few in
+    omega (arith, at-bit no-marks (x .elems))
+
+pub ready-few : (p : List ℕ) (h : Shape) (sets : List (List ℕ)) (before : List ℕ) → Ready p h sets before → h .size ≤ 60
+ready-few p h sets before r = subst⁻¹ (λ (k : Shape). k .size ≤ 60) (r .prepared .shape) (size-few p (read-pattern p) refl)

@@ -1,9 +1,12 @@
+pub mod Agreeing
 pub mod Atoms
 pub mod Choosing
+pub mod Compiled
 pub mod Countdown
 pub mod Drawing
 pub mod Elements
 pub mod Filling
+pub mod Finding
 pub mod Items
 pub mod Listing
 pub mod Meaning

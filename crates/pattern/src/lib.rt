@@ -8,7 +8,7 @@ ghost use lib.Dec.{eqb};
 ghost use lib.ListN.{length, getD, drop};
 ghost use Rattle.octets.specs.Bytes.{within};
 ghost use Rattle.octets.specs.Lists.{text, pick, some-of, peek};
-ghost use Rattle.pattern.specs.Answers.{is-pattern};
+ghost use Rattle.pattern.specs.Answers.{is-pattern, meets-text, outcome, first-fit};
 ghost use Rattle.pattern.specs.Machine.{Stepped, Leftmost, first-mask, last-mask, null-at, lower-as, upper-as, machine-of};
 ghost use Rattle.pattern.specs.Pattern.{Range, Atom, byte, dot, list};
 ghost use Rattle.pattern.specs.Places.{map-got, items-of, body-of, ItemAt, PieceAt};
@@ -656,6 +656,7 @@ fn no_shape() -> Shape
 // lent places as they are.
 pub fn prepare(p: &[u8], sets: &mut [[u64; 4]; 60], before: &mut [u64; 60]) -> Shape
     requires { ⌜ (length (now sets) ≡ 60) × (length (now before) ≡ 60) ⌝ }
+    ensures { λ r. ⌜ Ready (now (p .entry)) r (now (sets .exit)) (now (before .exit)) ⌝ }
     ensures { λ r. ⌜ Prepared (now (p .entry)) r (now (sets .entry)) (now (sets .exit)) (now (before .entry)) (now (before .exit)) ⌝ }
 {
     if !is_pattern(p) {
@@ -665,4 +666,58 @@ pub fn prepare(p: &[u8], sets: &mut [[u64; 4]; 60], before: &mut [u64; 60]) -> S
     let f = fill(p, sets, before);
     let m = f.marks;
     shape_by(m, left, f.right)
+}
+
+// The smallest place at which a part of the text that fits begins, or one above the text's length. The pattern p is the one that was
+// prepared; it is named for the promise alone.
+pub fn first_match(
+    h: Shape,
+    sets: &[[u64; 4]; 60],
+    before: &[u64; 60],
+    p: &[u8],
+    fold: bool,
+    text: &[u8],
+) -> usize
+    requires { ⌜ Ready (now p) h (now sets) (now before) ⌝ }
+    ensures { λ r. ⌜ r ≡ first-fit fold (now (p .entry)) (now (text .entry)) ⌝ }
+{
+    leftmost(h, sets, before, fold, text)
+}
+
+// Whether the prepared pattern matches the text; fold: the text is a name.
+pub fn test(
+    h: Shape,
+    sets: &[[u64; 4]; 60],
+    before: &[u64; 60],
+    p: &[u8],
+    fold: bool,
+    text: &[u8],
+) -> bool
+    requires { ⌜ Ready (now p) h (now sets) (now before) ⌝ }
+    ensures { λ r. ⌜ r ≡ meets-text fold (now (p .entry)) (now (text .entry)) ⌝ }
+{
+    leftmost(h, sets, before, fold, text) <= text.len()
+}
+
+pub enum Outcome {
+    No,
+    Yes,
+    Refuse,
+}
+
+// Whether a string is a pattern and matches the text, read for this text alone.
+pub fn matches(p: &[u8], fold: bool, text: &[u8]) -> Outcome
+    ensures { λ r. ⌜ r ≡ outcome fold (now (p .entry)) (now (text .entry)) ⌝ }
+{
+    if !is_pattern(p) {
+        return Outcome::Refuse;
+    }
+    let none = [0u64; 4];
+    let mut sets = [none; 60];
+    let mut before = [0u64; 60];
+    let h = prepare(p, &mut sets, &mut before);
+    if test(h, &sets, &before, p, fold, text) {
+        return Outcome::Yes;
+    }
+    Outcome::No
 }

@@ -1,4 +1,5 @@
 use borrow.Author.Needs.{needs}
+use Rattle.pattern.proofs.Filling.{prepared-ready}
 use Rattle.pattern.proofs.Filling.{prepare-refused, prepare-on, accepted}
 use Rattle.pattern.proofs.prepare.Statement.{statement}
 use Rattle.pattern.proofs.prepare.Tie as tie
@@ -10,7 +11,9 @@ no-shape-requires : tie.Need-no-shape-requires
 no-shape-requires c κs = search needs
 
 returns : tie.Need-returns
-returns c = prepare-refused _ _ _ _ _ (c .before .before .is-pattern .ensures) (c .before .if1 .taken) (c .no-shape .ensures)
+returns c =
+    let q = prepare-refused _ _ _ _ _ (c .before .before .is-pattern .ensures) (c .before .if1 .taken) (c .no-shape .ensures) in
+    (prepared-ready _ _ _ _ _ _ q, q)
 
 peek-at-requires : tie.Need-peek-at-requires
 peek-at-requires c κs = search needs
@@ -23,8 +26,11 @@ shape-by-requires c κs = search needs
 
 returns-2 : tie.Need-returns-2
 returns-2 c =
+    let q =
     prepare-on _ _ _ _ _ (c .before .before .before .before .before .before .before .is-pattern .ensures) _ _ _ _ (c .before .before .before .before .before .before .if1 .left)
     (c .before .before .before .before .before .peek-at .ensures) (c .before .before .fill .ensures) (c .shape-by .ensures)
+    in
+    (prepared-ready _ _ _ _ _ _ q, q)
 
 pub prepare-spec : {M : Type 1} → statement M
 prepare-spec =
