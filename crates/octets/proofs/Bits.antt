@@ -1,5 +1,5 @@
 -- Laws of a number's bits and of masks, for any width.
-use mathlib.Core.Path.{_≡_, refl, sym, ap, ap₂, _∙_, subst, subst⁻¹}
+use mathlib.Core.Path.{_≡_, refl, sym, ap, _∙_, subst⁻¹}
 use mathlib.Core.Bool.{Bool, true, false, not, _&&_, _||_, true≢false, or-true, or-false, and-true, and-false}
 use Prim.Native.Nat.{ℕ, zero, suc, _+_, _*_, _-_, _/_, _%_, _^_, _<_, _≤_, min, max}
 use native.Mathlib.Omega.{arith}
@@ -13,7 +13,7 @@ use borrow.Author.Tests.{eq-eqb, ne-eqb, eqb-true, eqb-false, ltb-true, ltb-fals
 use borrow.Author.Count.{below-none, below-more}
 use Rattle.octets.specs.Bits.{bit, mask}
 use Rattle.octets.specs.Lists.{pick}
-use Rattle.octets.proofs.Tests.{both, left, right, T-of, is-true, test-cases}
+use Rattle.octets.proofs.Tests.{both, left, right, T-of, is-true}
 
 -- ---- a bit, as code tests it
 

@@ -5,19 +5,19 @@ use mathlib.Core.List.{List, [], _∷_, _++_}
 use Prim.Native.Nat.{ℕ, zero, suc, _+_, _-_, _<_, _≤_}
 use native.Mathlib.Nat.{zero-add}
 use native.Mathlib.Omega.{arith}
-use lib.Dec.{T, eqb, leb, ltb, leb·suc-suc}
+use lib.Dec.{T, leb, ltb}
 use lib.ListN.{length, getD, drop, List·getD-append}
 use lib.Seq.{getD-drop}
-use borrow.Author.Tests.{lt-ltb, le-ltb, ltb-true, ltb-false, leb-true}
+use borrow.Author.Tests.{ltb-true, ltb-false, leb-true}
 use Rattle.octets.specs.Bits.{bit}
 use Rattle.octets.specs.Bytes.{lower, upper, within}
 use Rattle.octets.specs.Lists.{pick}
 use Rattle.octets.proofs.Bits.{bit-zero}
-use Rattle.octets.proofs.Tests.{by-test, left, right, T-of}
+use Rattle.octets.proofs.Tests.{by-test, left, right}
 use Rattle.pattern.specs.Answers.{meet-as}
-use Rattle.pattern.specs.Machine.{Machine, Live, live-end, live-on, Starts, starts-none, starts-live, StartsAt, Leftmost, first-mask, last-mask, null-at, lower-as, upper-as, met, machine-of}
-use Rattle.pattern.specs.Pattern.{Atom, Elem, Pattern, meets}
-use Rattle.pattern.specs.Prepared.{atom-of, starred, no-marks, marks, sets-of, befores, mark, shape-by, no-shape}
+use Rattle.pattern.specs.Machine.{Machine, Live, live-end, live-on, Starts, starts-none, starts-live, Leftmost, first-mask, last-mask, lower-as, upper-as, met, machine-of}
+use Rattle.pattern.specs.Pattern.{Atom, Elem, meets}
+use Rattle.pattern.specs.Prepared.{atom-of, starred, no-marks, marks, sets-of, befores, mark, shape-by}
 use Rattle.pattern.specs.Sets.{in-set, drawn}
 use Rattle.pattern.specs.declared.Marks.{Marks}
 use Rattle.pattern.specs.declared.Shape.{Shape}

@@ -1,18 +1,18 @@
 -- The atoms by place: lists, pairs, `.`, `*` and ordinary bytes.
-use mathlib.Core.Path.{_≡_, refl, sym, ap, ap₂, _∙_, subst, subst⁻¹}
-use mathlib.Core.Bool.{Bool, true, false, not, _&&_, _||_, true≢false, or-assoc, or-false}
+use mathlib.Core.Path.{_≡_, refl, sym, ap, ap₂, _∙_}
+use mathlib.Core.Bool.{Bool, true, false, not, _&&_, true≢false}
 use mathlib.Core.Option.{Option, none, some}
-use mathlib.Core.List.{List, [], _∷_}
-use Prim.Native.Nat.{ℕ, suc, _+_, _<_, _≤_}
+use mathlib.Core.List.{List}
+use Prim.Native.Nat.{ℕ, _+_, _<_, _≤_}
 use native.Mathlib.Omega.{arith}
 use lib.Dec.{eqb}
 use lib.ListN.{length, getD, drop}
 use lib.Seq.{drop-drop}
-use borrow.Author.Tests.{ne-eqb, eq-eqb, eqb-true, eqb-false, not-true, not-false}
+use borrow.Author.Tests.{ne-eqb, eq-eqb, eqb-true, not-true, not-false}
 use Rattle.octets.specs.Lists.{text, pick, some-of, peek}
-use Rattle.octets.specs.Option.{_>>=_, holds}
+use Rattle.octets.specs.Option.{_>>=_}
 use Rattle.pattern.specs.Pattern.{Range, Atom, byte, dot, list}
-use Rattle.pattern.specs.Places.{map-got, items-of, piece-read, PieceAt}
+use Rattle.pattern.specs.Places.{map-got, items-of, PieceAt}
 use Rattle.pattern.specs.Reading.{Read, read, bracket, escaped, asterisk, atom}
 use Rattle.pattern.specs.Sets.{drawn}
 use Rattle.pattern.specs.declared.Piece.{Piece}

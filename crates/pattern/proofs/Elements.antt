@@ -1,15 +1,14 @@
 -- The elements by place: the last `$`, an atom and its `*`, the end.
-use mathlib.Core.Path.{_≡_, refl, sym, ap, ap₂, _∙_, subst, subst⁻¹}
-use mathlib.Core.Bool.{Bool, true, false, not, _&&_, true≢false}
+use mathlib.Core.Path.{_≡_, refl, sym, ap, _∙_, subst⁻¹}
+use mathlib.Core.Bool.{Bool, true, false, _&&_}
 use mathlib.Core.Option.{Option, none, some}
 use mathlib.Core.List.{List, [], _∷_}
-use Prim.Native.Nat.{ℕ, zero, suc, _+_, _<_, _≤_}
+use Prim.Native.Nat.{ℕ, suc, _+_, _<_, _≤_}
 use native.Mathlib.Nat.{add-zero, zero-add}
-use native.Mathlib.Numerals.{add-one}
 use native.Mathlib.Omega.{arith}
 use lib.Dec.{eqb, leb, ltb}
-use lib.ListN.{length, getD, drop, length-drop, drop-of-length-le}
-use lib.Seq.{drop-drop, drop-cons, drop-length}
+use lib.ListN.{length, getD, drop, drop-of-length-le}
+use lib.Seq.{drop-drop, drop-cons}
 use borrow.Author.Tests.{eq-eqb, ne-eqb, eqb-true, ltb-true, ltb-false}
 use Rattle.octets.specs.Lists.{pick, empty, peek}
 use Rattle.octets.specs.Option.{_>>=_, holds}
@@ -17,7 +16,7 @@ use Rattle.octets.proofs.Tests.{either}
 use Rattle.pattern.specs.Answers.{was-read, is-pattern}
 use Rattle.pattern.specs.Pattern.{Atom, Elem, Pattern}
 use Rattle.pattern.specs.Places.{map-got, body-of, PieceAt}
-use Rattle.pattern.specs.Reading.{Read, read, atom, elem, Body, body, read-pattern}
+use Rattle.pattern.specs.Reading.{Read, atom, elem, Body, read-pattern}
 use Rattle.pattern.specs.Sets.{drawn}
 use Rattle.pattern.specs.declared.Piece.{Piece}
 use Rattle.pattern.proofs.Atoms.{piece-found, piece-lost, map-none, map-some}
@@ -181,16 +180,17 @@ pub count-done : (s : List ℕ) (i : ℕ) (first : Bool) (n : ℕ) → Counted s
 count-done s i first n c h = ap (λ (k : ℕ). leb k 60) (sym (add-zero n)) ∙ sym (ap (counted n) (body-end s i first h)) ∙ c .left
 
 module _ (s : List ℕ) (i : ℕ) (first : Bool) (n : ℕ) (c : Counted s i first n) (h : i < length s) where
-  pub count-last : (eqb (getD s i 0) 36 && eqb (i + 1) (length s)) ≡ true → leb n 60 ≡ is-pattern s
-  count-last e = ap (λ (k : ℕ). leb k 60) (sym (add-zero n)) ∙ sym (ap (counted n) (body-last s i first h e)) ∙ c .left
+  pub count-last : (t : Bool) → t ≡ (eqb (getD s i 0) 36 && eqb (i + 1) (length s)) → t ≡ true → leb n 60 ≡ is-pattern s
+  count-last t q e = ap (λ (k : ℕ). leb k 60) (sym (add-zero n)) ∙ sym (ap (counted n) (body-last s i first h (sym q ∙ e))) ∙ c .left
 
-  module _ (r : Piece) (a : PieceAt (map-got (drawn false) (atom first (getD s i 0) (drop (i + 1) s))) s i r) (e : (eqb (getD s i 0) 36 && eqb (i + 1) (length s)) ≡ false) where
+  module _ (r : Piece) (a : PieceAt (map-got (drawn false) (atom first (getD s i 0) (drop (i + 1) s))) s i r) (t : Bool)
+      (k : t ≡ (eqb (getD s i 0) 36 && eqb (i + 1) (length s))) (e : t ≡ false) where
     pub count-lost : r .end ≡ 0 → false ≡ is-pattern s
-    count-lost z = sym (ap (counted n) (body-lost s i first h false r a e z)) ∙ c .left
+    count-lost z = sym (ap (counted n) (body-lost s i first h false r a (sym k ∙ e) z)) ∙ c .left
 
     pub count-more : (j : ℕ) → (r .end ≡ 0 → ⊥) → j ≡ pick (eqb (peek (drop (r .end) s)) 42) (r .end + 1) (r .end) → Counted s j false (n + 1)
     count-more j m q =
-        let g = body-more s i first h false r a e m in
+        let g = body-more s i first h false r a (sym k ∙ e) m in
         let x = elem (eqb (peek (drop (r .end) s)) 42) (g .value) in
         let f : i < r .end = a .forward m in
         let l : n ≤ i = c .few in

@@ -1,9 +1,9 @@
 -- The lent places while they are filled: what remains to be stored.
-use mathlib.Core.Path.{_≡_, refl, sym, ap, ap₂, _∙_, subst, subst⁻¹}
+use mathlib.Core.Path.{_≡_, refl, sym, ap, ap₂, _∙_, subst⁻¹}
 use mathlib.Core.Bool.{Bool, true, false, not, _&&_, true≢false}
 use mathlib.Core.Option.{Option, none, some}
 use mathlib.Core.List.{List, [], _∷_, _++_}
-use Prim.Native.Nat.{ℕ, zero, suc, _+_, _<_, _≤_}
+use Prim.Native.Nat.{ℕ, suc, _+_, _<_, _≤_}
 use native.Mathlib.Nat.{zero-add}
 use native.Mathlib.Numerals.{add-one}
 use native.Mathlib.Omega.{arith}
@@ -13,7 +13,6 @@ use lib.Seq.{sets, sets-eq}
 use borrow.Author.Tests.{leb-true, not-true, not-false}
 use Rattle.octets.specs.Lists.{pick, peek}
 use Rattle.octets.specs.Option.{_>>=_, holds}
-use Rattle.octets.proofs.Tests.{T-of}
 use Rattle.pattern.specs.Answers.{was-read, is-pattern}
 use Rattle.pattern.specs.Pattern.{Atom, Elem, Pattern}
 use Rattle.pattern.specs.Places.{map-got, body-of, PieceAt}

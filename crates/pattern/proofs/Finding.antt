@@ -1,5 +1,5 @@
 -- The smallest place that the scan finds is the one that the definitions name, and it is within the text exactly if the pattern matches.
-use mathlib.Core.Path.{_≡_, refl, sym, ap, _∙_, subst, subst⁻¹}
+use mathlib.Core.Path.{_≡_, refl, sym, ap, _∙_, subst}
 use mathlib.Core.Bool.{Bool, true, false, not, _&&_, _||_, true≢false}
 use mathlib.Core.Option.{Option, none, some}
 use mathlib.Core.List.{List, [], _∷_}
@@ -7,17 +7,16 @@ use Prim.Native.Nat.{ℕ, zero, suc, _+_, _<_, _≤_}
 use native.Mathlib.Omega.{arith}
 use lib.Dec.{T, eqb, eqb→eq, leb, ltb}
 use lib.ListN.{length, drop}
-use borrow.Author.Tests.{leb-true, leb-false, le-leb, lt-leb, ltb-true, ltb-false, not-true, not-false}
+use borrow.Author.Tests.{leb-true, leb-false, lt-leb, ltb-true, ltb-false, not-true, not-false}
 use Rattle.octets.specs.Lists.{pick}
 use Rattle.octets.proofs.Bits.{bit-zero}
 use Rattle.octets.proofs.Tests.{both, left, right, or-left, or-right, or-cases, T-of, not-T-of, is-true}
 use Rattle.pattern.specs.Answers.{was-read, is-pattern, matches-as, read-matches, meets-text, outcome-of, outcome, meet-as, fits-from, smallest, first-of, first-fit}
-use Rattle.pattern.specs.Machine.{Machine, Starts, starts-none, starts-live, StartsAt, Leftmost, machine-of}
+use Rattle.pattern.specs.Machine.{Starts, starts-none, starts-live, Leftmost, machine-of}
 use Rattle.pattern.specs.Matching.{front, somewhere, matches, written-matches, name-matches}
-use Rattle.pattern.specs.Pattern.{Atom, Elem, Pattern, meets, meets-name}
-use Rattle.pattern.specs.Prepared.{no-shape, shape-of, sets-after, befores-after, Prepared, Ready}
+use Rattle.pattern.specs.Pattern.{Elem, Pattern}
+use Rattle.pattern.specs.Prepared.{no-shape, shape-of, sets-after, befores-after, Ready}
 use Rattle.pattern.specs.Reading.{read-pattern}
-use Rattle.pattern.specs.declared.Outcome.{Outcome}
 use Rattle.pattern.specs.declared.Outcome.the-variants.{No, Yes, Refuse}
 use Rattle.pattern.specs.declared.Shape.{Shape}
 use Rattle.pattern.proofs.Agreeing.{Bytes, leftmost-agree, pattern-agrees}

@@ -1,9 +1,9 @@
 -- The items of a bracket list, by place.
-use mathlib.Core.Path.{_≡_, refl, sym, ap, ap₂, _∙_, subst, subst⁻¹}
+use mathlib.Core.Path.{_≡_, refl, sym, ap, ap₂, _∙_, subst⁻¹}
 use mathlib.Core.Bool.{Bool, true, false, not, _&&_, _||_, true≢false}
-use mathlib.Core.Option.{Option, none, some}
-use mathlib.Core.List.{List, [], _∷_}
-use Prim.Native.Nat.{ℕ, suc, _+_, _<_, _≤_}
+use mathlib.Core.Option.{Option, none}
+use mathlib.Core.List.{List}
+use Prim.Native.Nat.{ℕ, _+_, _<_, _≤_}
 use native.Mathlib.Omega.{arith}
 use lib.Dec.{leb, eqb}
 use lib.ListN.{length, getD, drop}
@@ -12,7 +12,7 @@ use borrow.Author.Tests.{ne-eqb, eq-eqb, le-leb, lt-leb, not-true, not-false}
 use Rattle.octets.specs.Lists.{text, pick, some-of, peek}
 use Rattle.octets.specs.Option.{_>>=_, holds}
 use Rattle.pattern.specs.Pattern.{Range}
-use Rattle.pattern.specs.Places.{item-read, ItemAt}
+use Rattle.pattern.specs.Places.{ItemAt}
 use Rattle.pattern.specs.Reading.{Read, read, class-opens, range-opens, range, single, begins-item, item}
 use Rattle.pattern.specs.declared.Item.{Item}
 use Rattle.pattern.proofs.Places.{peek-in, peek-inside}

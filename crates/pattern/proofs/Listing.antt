@@ -1,19 +1,19 @@
 -- A bracket list under way: the ranges read so far, and what is left.
-use mathlib.Core.Path.{_≡_, refl, sym, ap, ap₂, _∙_, subst, subst⁻¹}
-use mathlib.Core.Bool.{Bool, true, false, not, _&&_, true≢false}
+use mathlib.Core.Path.{_≡_, refl, sym, ap, _∙_}
+use mathlib.Core.Bool.{Bool, true, false, not, _&&_}
 use mathlib.Core.Option.{Option, none, some}
 use mathlib.Core.List.{List, [], _∷_, _++_, append-assoc, append-nil}
-use Prim.Native.Nat.{ℕ, suc, _+_, _<_, _≤_}
+use Prim.Native.Nat.{ℕ, _+_, _<_, _≤_}
 use native.Mathlib.Omega.{arith}
 use lib.Dec.{eqb}
 use lib.ListN.{length, getD, drop, replicate, drop-of-length-le}
 use borrow.Author.Tests.{ne-eqb, eq-eqb}
 use Rattle.octets.specs.Lists.{pick}
 use Rattle.octets.specs.Option.{_>>=_}
-use Rattle.pattern.specs.Pattern.{Range, Atom, list}
-use Rattle.pattern.specs.Places.{map-got, items-of, item-read, piece-read, ItemAt, PieceAt}
+use Rattle.pattern.specs.Pattern.{Range, list}
+use Rattle.pattern.specs.Places.{map-got, items-of, ItemAt, PieceAt}
 use Rattle.pattern.specs.Reading.{Read, read, item}
-use Rattle.pattern.specs.Sets.{words, drawn}
+use Rattle.pattern.specs.Sets.{drawn}
 use Rattle.pattern.specs.declared.Item.{Item}
 use Rattle.pattern.specs.declared.Piece.{Piece}
 use Rattle.pattern.proofs.Countdown.{items-next, items-none}

@@ -1,18 +1,17 @@
 -- One byte of the scan: the candidates are taken one by one, the lowest first.
 use mathlib.Core.Path.{_≡_, refl, sym, ap, ap₂, _∙_, subst, subst⁻¹}
-use mathlib.Core.Bool.{Bool, true, false, not, _&&_, _||_, or-true, or-false, and-true, and-false}
+use mathlib.Core.Bool.{Bool, true, false, not, _&&_, _||_, or-false, and-true, and-false}
 use mathlib.Core.List.{List, []}
 use Prim.Native.Nat.{ℕ, _*_, _%_, _^_, _<_, _≤_}
 use native.Mathlib.Nat.{lt-trans}
-use native.Mathlib.Omega.{arith}
 use lib.Bits.{bitOr, bitXor}
 use lib.Count.{trailingZeros}
-use lib.Dec.{T, eqb, eqb→eq, eqb-refl, ltb}
+use lib.Dec.{T, eqb, eqb→eq, eqb-refl}
 use lib.ListN.{getD}
 use borrow.Author.Tests.{eqb-true, lt-ltb, le-ltb}
 use Rattle.octets.specs.Bits.{bit}
 use Rattle.octets.proofs.Bits.{bit-zero, bit-or, bit-add, bit-drop, drop-lt, lowest-set, bit-below, shl-one}
-use Rattle.octets.proofs.Tests.{T-of, not-T-of, is-true, left, right, or-left, or-right, or-cases}
+use Rattle.octets.proofs.Tests.{T-of, not-T-of, is-true, left, or-left, or-right, or-cases}
 use Rattle.pattern.specs.Machine.{met, Stepped}
 use Rattle.pattern.specs.Sets.{in-set}
 

@@ -1,15 +1,14 @@
 -- What the reader's code answers, by place in the pattern.
-use mathlib.Core.Bool.{Bool, true}
+use mathlib.Core.Bool.{Bool}
 use mathlib.Core.Option.{Option, none, some}
 use mathlib.Core.Path.{_≡_}
 use mathlib.Core.List.{List}
-use Prim.Native.Nat.{ℕ, suc, _+_, _≤_, _<_}
+use Prim.Native.Nat.{ℕ, suc, _≤_, _<_}
 use lib.Dec.{eqb}
-use lib.ListN.{length, getD, drop}
+use lib.ListN.{length, drop}
 use Rattle.octets.specs.Lists.{pick}
-use Rattle.pattern.specs.Pattern.{Range, Atom, list}
-use Rattle.pattern.specs.Reading.{Read, read, item, items, Body, body}
-use Rattle.pattern.specs.Sets.{drawn}
+use Rattle.pattern.specs.Pattern.{Range}
+use Rattle.pattern.specs.Reading.{Read, read, items, Body, body}
 use Rattle.pattern.specs.declared.Item.{Item}
 use Rattle.pattern.specs.declared.Piece.{Piece}
 

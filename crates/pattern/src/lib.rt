@@ -10,8 +10,8 @@ ghost use Rattle.octets.specs.Bytes.{within};
 ghost use Rattle.octets.specs.Lists.{text, pick, some-of, peek};
 ghost use Rattle.pattern.specs.Answers.{is-pattern, meets-text, outcome, first-fit};
 ghost use Rattle.pattern.specs.Machine.{Stepped, Leftmost, first-mask, last-mask, null-at, lower-as, upper-as, machine-of};
-ghost use Rattle.pattern.specs.Pattern.{Range, Atom, byte, dot, list};
-ghost use Rattle.pattern.specs.Places.{map-got, items-of, body-of, ItemAt, PieceAt};
+ghost use Rattle.pattern.specs.Pattern.{Range, byte, dot, list};
+ghost use Rattle.pattern.specs.Places.{map-got, items-of, ItemAt, PieceAt};
 ghost use Rattle.pattern.specs.Prepared.{mark as marked, before-at, shape-by, no-shape, FilledFor, Prepared, Ready};
 ghost use Rattle.pattern.specs.Reading.{range, item, bracket, escaped, atom, read-pattern};
 ghost use Rattle.pattern.specs.Sets.{in-set, words, drawn};
@@ -315,6 +315,14 @@ fn start_at(s: &[u8]) -> usize
     0
 }
 
+// "`$` only last"
+fn is_anchor(s: &[u8], i: usize) -> bool
+    requires { ⌜ i < length (now s) ⌝ }
+    ensures { λ r. ⌜ r ≡ (eqb (getD (now (s .entry)) i 0) 36 && eqb (i + 1) (length (now (s .entry)))) ⌝ }
+{
+    (s[i] == 36) & (i + 1 == s.len())
+}
+
 // Whether a string is a pattern. It is read once, and no set is made.
 pub fn is_pattern(s: &[u8]) -> bool
     ensures { λ r. ⌜ r ≡ is-pattern (now (s .entry)) ⌝ }
@@ -326,7 +334,7 @@ pub fn is_pattern(s: &[u8]) -> bool
     let mut first = true;
     let mut n: usize = 0;
     while i < s.len() {
-        if (s[i] == 36) & (i + 1 == s.len()) {
+        if is_anchor(s, i) {
             return n <= 60;
         }
         let a = atom_at(s, i, first, false);
@@ -585,7 +593,7 @@ fn fill(s: &[u8], sets: &mut [[u64; 4]; 60], before: &mut [u64; 60]) -> Filled
         free: true,
     };
     while i < s.len() {
-        if (s[i] == 36) & (i + 1 == s.len()) {
+        if is_anchor(s, i) {
             return Filled {
                 marks: m,
                 right: true,

@@ -1,11 +1,10 @@
 use borrow.Author.Needs.{needs}
-use lib.Dec.{eqb}
-use Prim.Native.Nat.{ℕ}
-use mathlib.Core.Path.{ap}
-use Rattle.pattern.proofs.Elements.{behind-after}
 use Rattle.pattern.proofs.Filling.{Fills, fill-start, fill-end, fill-last, fill-found, fill-room, fill-more}
+use Rattle.pattern.proofs.Elements.{behind-after}
 use lib.ListN.{length}
-use Prim.Native.Nat.{_-_, _≤_}
+use lib.Dec.{eqb}
+use Prim.Native.Nat.{ℕ, _-_, _≤_}
+use mathlib.Core.Path.{sym, ap, _∙_}
 use native.Mathlib.Omega.{arith}
 use Rattle.pattern.proofs.fill.Statement.{statement}
 use Rattle.pattern.proofs.fill.Tie as tie
@@ -22,17 +21,14 @@ start-at-requires c κs = search needs
 loop-holds : tie.Need-loop-holds Inv-loop μ-loop
 loop-holds c = fill-start _ _ _ _ (c .before .before .pre .0) (c .before .before .pre .1) (c .before .before .pre .2) (c .start-at .ensures)
 
-shared-slice-read-if1 : tie.Need-shared-slice-read-if1 Inv-loop μ-loop
-shared-slice-read-if1 c = search needs
-
-add-if1 : tie.Need-add-if1 Inv-loop μ-loop
-add-if1 c = search needs
+is-anchor-requires : tie.Need-is-anchor-requires Inv-loop μ-loop
+is-anchor-requires c κs = search needs
 
 returns : tie.Need-returns Inv-loop μ-loop
 returns c =
     let l = c .before .before .before .loop in
     let pre = c .before .before .before .before .before .before .pre in
-    fill-last _ (l .inv .0) _ _ (pre .1) (pre .2) _ _ _ _ _ (l .inv .1) (search needs) (c .if1 .taken)
+    fill-last _ (l .inv .0) _ _ (pre .1) (pre .2) _ _ _ _ _ (l .inv .1) (search needs) (sym (c .before .is-anchor .ensures) ∙ c .if1 .taken)
 
 atom-at-requires : tie.Need-atom-at-requires Inv-loop μ-loop
 atom-at-requires c κs = search needs
@@ -47,7 +43,8 @@ element-set-from-set : tie.Need-element-set-from-set Inv-loop μ-loop
 element-set-from-set c =
     let l = c .before .before .before .before .before .before .loop in
     let pre = c .before .before .before .before .before .before .before .before .before .pre in
-    fill-room _ (l .inv .0) _ _ (pre .1) (pre .2) _ _ _ _ _ (l .inv .1) (search needs) _ (c .before .before .atom-at .ensures) (c .before .before .before .if1 .left)
+    fill-room _ (l .inv .0) _ _ (pre .1) (pre .2) _ _ _ _ _ (l .inv .1) (search needs) _ (c .before .before .atom-at .ensures)
+    (sym (c .before .before .before .before .is-anchor .ensures) ∙ c .before .before .before .if1 .left)
 
 before-at-requires : tie.Need-before-at-requires Inv-loop μ-loop
 before-at-requires c κs = search needs
@@ -59,7 +56,8 @@ element-write-before : tie.Need-element-write-before Inv-loop μ-loop
 element-write-before c =
     let l = c .before .before .before .before .before .before .before .loop in
     let pre = c .before .before .before .before .before .before .before .before .before .before .pre in
-    fill-room _ (l .inv .0) _ _ (pre .1) (pre .2) _ _ _ _ _ (l .inv .1) (search needs) _ (c .before .before .before .atom-at .ensures) (c .before .before .before .before .if1 .left)
+    fill-room _ (l .inv .0) _ _ (pre .1) (pre .2) _ _ _ _ _ (l .inv .1) (search needs) _ (c .before .before .before .atom-at .ensures)
+    (sym (c .before .before .before .before .before .is-anchor .ensures) ∙ c .before .before .before .before .if1 .left)
 
 mark-requires : tie.Need-mark-requires Inv-loop μ-loop
 mark-requires c κs = search needs
@@ -72,18 +70,20 @@ loop-less c =
     let l = c .before .before .before .before .before .before .before .before .before .loop in
     let pre = c .before .before .before .before .before .before .before .before .before .before .before .before .pre in
     let a = c .before .before .before .before .before .atom-at in
-    let n = fill-found _ (l .inv .0) _ _ (pre .1) (pre .2) _ _ _ _ _ (l .inv .1) (search needs) _ (a .ensures) (c .before .before .before .before .before .before .if1 .left) in
+    let n =
+    fill-found _ (l .inv .0) _ _ (pre .1) (pre .2) _ _ _ _ _ (l .inv .1) (search needs) _ (a .ensures)
+    (sym (c .before .before .before .before .before .before .before .is-anchor .ensures) ∙ c .before .before .before .before .before .before .if1 .left)
+    in
     let j : a .result .end ≤ c .behind .result = search behind-after in
     omega (arith, a .ensures .forward n)
 
 loop-again : tie.Need-loop-again Inv-loop μ-loop
 loop-again c =
     let l = c .before .before .before .before .before .before .before .before .before .loop in
-    let pre = c .before .before .before .before .before .before .before .before .before .before .before .before .pre in
-    let a = c .before .before .before .before .before .atom-at in (
+    let pre = c .before .before .before .before .before .before .before .before .before .before .before .before .pre in (
       l .inv .0,
-      fill-more _ (l .inv .0) _ _ (pre .1) (pre .2) _ _ _ _ _ (l .inv .1) (search needs) _ (a .ensures)
-          (c .before .before .before .before .before .before .if1 .left) _ _ _ _
+      fill-more _ (l .inv .0) _ _ (pre .1) (pre .2) _ _ _ _ _ (l .inv .1) (search needs) _ (c .before .before .before .before .before .atom-at .ensures)
+          (sym (c .before .before .before .before .before .before .before .is-anchor .ensures) ∙ c .before .before .before .before .before .before .if1 .left) _ _ _ _
           (ap (λ (k : ℕ). eqb k 42) (c .before .before .before .before .peek-at .ensures)) (c .behind .ensures) (c .before .mark .ensures) (c .before .before .before-at .ensures),
     )
 
@@ -101,8 +101,7 @@ fill-spec =
     μ-loop
     start-at-requires
     loop-holds
-    shared-slice-read-if1
-    add-if1
+    is-anchor-requires
     returns
     atom-at-requires
     peek-at-requires

@@ -1,6 +1,5 @@
 use borrow.Author.Needs.{needs}
-use Rattle.pattern.proofs.Elements.{behind-after}
-use Rattle.pattern.proofs.Elements.{Counted, count-empty, count-start, count-last, count-lost, count-more, count-done}
+use Rattle.pattern.proofs.Elements.{Counted, count-empty, count-start, count-last, count-lost, count-more, count-done, behind-after}
 use lib.ListN.{length}
 use Prim.Native.Nat.{_-_, _≤_}
 use native.Mathlib.Omega.{arith}
@@ -22,11 +21,8 @@ start-at-requires c κs = search needs
 loop-holds : tie.Need-loop-holds Inv-loop μ-loop
 loop-holds c = search count-start
 
-shared-slice-read-if2 : tie.Need-shared-slice-read-if2 Inv-loop μ-loop
-shared-slice-read-if2 c = search needs
-
-add-if2 : tie.Need-add-if2 Inv-loop μ-loop
-add-if2 c = omega arith
+is-anchor-requires : tie.Need-is-anchor-requires Inv-loop μ-loop
+is-anchor-requires c κs = search needs
 
 returns-2 : tie.Need-returns-2 Inv-loop μ-loop
 returns-2 c = search count-last
@@ -64,8 +60,7 @@ is-pattern-spec =
     returns
     start-at-requires
     loop-holds
-    shared-slice-read-if2
-    add-if2
+    is-anchor-requires
     returns-2
     atom-at-requires
     returns-3
