@@ -18,9 +18,10 @@ use Rattle.pattern.specs.Answers.{meet-as}
 use Rattle.pattern.specs.Machine.{Machine, Live, live-end, live-on, Starts, starts-none, starts-live, Leftmost, first-mask, last-mask, lower-as, upper-as, met, machine-of}
 use Rattle.pattern.specs.Pattern.{Atom, Elem, meets}
 use Rattle.pattern.specs.Prepared.{atom-of, starred, no-marks, marks, sets-of, befores, mark, shape-by}
-use Rattle.pattern.specs.Sets.{in-set, drawn}
-use Rattle.pattern.specs.declared.Marks.{Marks}
-use Rattle.pattern.specs.declared.Shape.{Shape}
+use Rattle.pattern.specs.Drawn.{drawn}
+use Rattle.pattern.specs.Sets.{in-set}
+use Rattle.pattern.specs.declared.edition1.Marks.{Marks}
+use Rattle.pattern.specs.declared.matcher.Shape.{Shape}
 use Rattle.pattern.proofs.Compiled.{met-at, compiled}
 use Rattle.pattern.proofs.Positions.{free, leads, ends, follows, frees, ends-bit, leads-bit, follows-bit, follows-past, at-bit}
 use Rattle.pattern.proofs.Words.{in-words}

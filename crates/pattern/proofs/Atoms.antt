@@ -14,8 +14,8 @@ use Rattle.octets.specs.Option.{_>>=_}
 use Rattle.pattern.specs.Pattern.{Range, Atom, byte, dot, list}
 use Rattle.pattern.specs.Places.{map-got, items-of, PieceAt}
 use Rattle.pattern.specs.Reading.{Read, read, bracket, escaped, asterisk, atom}
-use Rattle.pattern.specs.Sets.{drawn}
-use Rattle.pattern.specs.declared.Piece.{Piece}
+use Rattle.pattern.specs.Drawn.{drawn}
+use Rattle.pattern.specs.declared.reader.Piece.{Piece}
 use Rattle.pattern.proofs.Items.{passed, stopped}
 use Rattle.pattern.proofs.Listing.{piece-none, piece-some}
 use Rattle.pattern.proofs.Places.{peek-in, peek-inside}

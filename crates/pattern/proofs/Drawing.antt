@@ -9,7 +9,8 @@ use borrow.Author.Tests.{eqb-true, eqb-false, eq-eqb, ne-eqb}
 use Rattle.octets.specs.Bytes.{within}
 use Rattle.octets.specs.Lists.{some-of}
 use Rattle.pattern.specs.Pattern.{Range, Atom, byte, dot, list, in-range}
-use Rattle.pattern.specs.Sets.{words, drawn}
+use Rattle.pattern.specs.Drawn.{drawn}
+use Rattle.pattern.specs.Sets.{words}
 use Rattle.pattern.proofs.Words.{words-ext, no-words}
 
 -- where no sets are asked for, all are alike

@@ -6,34 +6,22 @@ use mathlib.Core.List.{List, [], _∷_}
 use Prim.Native.Nat.{ℕ, suc, _+_, _<_, _≤_}
 use native.Mathlib.Nat.{add-zero, zero-add}
 use native.Mathlib.Omega.{arith}
-use lib.Dec.{eqb, leb, ltb}
+use lib.Dec.{eqb, leb}
 use lib.ListN.{length, getD, drop, drop-of-length-le}
-use lib.Seq.{drop-drop, drop-cons}
-use borrow.Author.Tests.{eq-eqb, ne-eqb, eqb-true, ltb-true, ltb-false}
-use Rattle.octets.specs.Lists.{pick, empty, peek}
+use lib.Seq.{drop-drop}
+use borrow.Author.Tests.{eqb-true}
+use Rattle.octets.specs.Lists.{pick, peek}
 use Rattle.octets.specs.Option.{_>>=_, holds}
 use Rattle.octets.proofs.Tests.{either}
 use Rattle.pattern.specs.Answers.{was-read, is-pattern}
 use Rattle.pattern.specs.Pattern.{Atom, Elem, Pattern}
 use Rattle.pattern.specs.Places.{map-got, body-of, PieceAt}
 use Rattle.pattern.specs.Reading.{Read, atom, elem, Body, read-pattern}
-use Rattle.pattern.specs.Sets.{drawn}
-use Rattle.pattern.specs.declared.Piece.{Piece}
+use Rattle.pattern.specs.Drawn.{drawn}
+use Rattle.pattern.specs.declared.reader.Piece.{Piece}
 use Rattle.pattern.proofs.Atoms.{piece-found, piece-lost, map-none, map-some}
 use Rattle.pattern.proofs.Countdown.{body-next, body-none, body-fuel}
-use Rattle.pattern.proofs.Places.{drop-at, peek-inside}
-
--- nothing is left exactly at the end
-pub empty-at : (s : List ℕ) (i : ℕ) → i ≤ length s → empty (drop i s) ≡ eqb i (length s)
-empty-at s i h = go (ltb i (length s)) refl
-  where
-    go : (t : Bool) → ltb i (length s) ≡ t → empty (drop i s) ≡ eqb i (length s)
-    go true e =
-        let q : i < length s = ltb-true i (length s) e in
-        rw (drop-cons s i 0 q) (sym (ne-eqb i (length s) (λ z. omega arith)))
-    go false e =
-        let q : length s ≤ i = ltb-false i (length s) e in
-        rw (drop-of-length-le s q) (sym (eq-eqb i (length s) (omega arith)))
+use Rattle.pattern.proofs.Places.{drop-at, empty-at, peek-inside}
 
 -- ---- behind an atom and its `*`
 

@@ -18,11 +18,11 @@ use Rattle.pattern.specs.Pattern.{Atom, Elem, Pattern}
 use Rattle.pattern.specs.Places.{map-got, body-of, PieceAt}
 use Rattle.pattern.specs.Prepared.{starred, atom-of, no-marks, mark, before-at, marks, sets-of, befores, sets-after, befores-after, marks-of, ends-anchored, shape-by, no-shape, shape-of, FilledFor, Prepared, Ready}
 use Rattle.pattern.specs.Reading.{atom, elem, Body, read-pattern}
-use Rattle.pattern.specs.Sets.{drawn}
-use Rattle.pattern.specs.declared.Filled.{Filled}
-use Rattle.pattern.specs.declared.Marks.{Marks}
-use Rattle.pattern.specs.declared.Piece.{Piece}
-use Rattle.pattern.specs.declared.Shape.{Shape}
+use Rattle.pattern.specs.Drawn.{drawn}
+use Rattle.pattern.specs.declared.edition1.Filled.{Filled}
+use Rattle.pattern.specs.declared.edition1.Marks.{Marks}
+use Rattle.pattern.specs.declared.reader.Piece.{Piece}
+use Rattle.pattern.specs.declared.matcher.Shape.{Shape}
 use Rattle.pattern.proofs.Elements.{with-elem, Step, body-end, body-last, body-lost, body-more, start-of, finished, read-is, start-le, behind-le, count-empty}
 use Rattle.pattern.proofs.Positions.{at-bit}
 

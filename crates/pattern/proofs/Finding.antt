@@ -18,7 +18,7 @@ use Rattle.pattern.specs.Pattern.{Elem, Pattern}
 use Rattle.pattern.specs.Prepared.{no-shape, shape-of, sets-after, befores-after, Ready}
 use Rattle.pattern.specs.Reading.{read-pattern}
 use Rattle.pattern.specs.declared.Outcome.the-variants.{No, Yes, Refuse}
-use Rattle.pattern.specs.declared.Shape.{Shape}
+use Rattle.pattern.specs.declared.matcher.Shape.{Shape}
 use Rattle.pattern.proofs.Agreeing.{Bytes, leftmost-agree, pattern-agrees}
 use Rattle.pattern.proofs.Compiled.{compiled, starts-front, front-starts}
 

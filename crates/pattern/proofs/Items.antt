@@ -14,7 +14,7 @@ use Rattle.octets.specs.Option.{_>>=_, holds}
 use Rattle.pattern.specs.Pattern.{Range}
 use Rattle.pattern.specs.Places.{ItemAt}
 use Rattle.pattern.specs.Reading.{Read, read, class-opens, range-opens, range, single, begins-item, item}
-use Rattle.pattern.specs.declared.Item.{Item}
+use Rattle.pattern.specs.declared.reader.Item.{Item}
 use Rattle.pattern.proofs.Places.{peek-in, peek-inside}
 
 abbrev no-item : Item

@@ -13,9 +13,9 @@ use Rattle.octets.specs.Option.{_>>=_}
 use Rattle.pattern.specs.Pattern.{Range, list}
 use Rattle.pattern.specs.Places.{map-got, items-of, ItemAt, PieceAt}
 use Rattle.pattern.specs.Reading.{Read, read, item}
-use Rattle.pattern.specs.Sets.{drawn}
-use Rattle.pattern.specs.declared.Item.{Item}
-use Rattle.pattern.specs.declared.Piece.{Piece}
+use Rattle.pattern.specs.Drawn.{drawn}
+use Rattle.pattern.specs.declared.reader.Item.{Item}
+use Rattle.pattern.specs.declared.reader.Piece.{Piece}
 use Rattle.pattern.proofs.Countdown.{items-next, items-none}
 use Rattle.pattern.proofs.Places.{drop-at}
 use Rattle.pattern.proofs.Words.{no-words}

@@ -13,7 +13,7 @@ use Rattle.octets.specs.Lists.{pick}
 use Rattle.octets.proofs.Bits.{bit-zero, bit-pow, bit-add}
 use Rattle.pattern.specs.Pattern.{Elem}
 use Rattle.pattern.specs.Prepared.{starred, no-marks, mark, before-at, marks, befores}
-use Rattle.pattern.specs.declared.Marks.{Marks}
+use Rattle.pattern.specs.declared.edition1.Marks.{Marks}
 
 -- every element may be left out
 abbrev pub free : List Elem → Bool

@@ -15,9 +15,8 @@ use Rattle.octets.proofs.Bits.{bit-zero, bit-or, common, share}
 use Rattle.octets.proofs.Tests.{T-of, not-T-of, both, left, right, or-left, or-right, or-cases}
 use Rattle.pattern.specs.Machine.{Machine, Live, live-end, live-on, Starts, starts-none, starts-live, StartsAt, Leftmost, first-mask, last-mask, null-at, lower-as, upper-as, met, machine-of, Stepped}
 use Rattle.pattern.specs.Sets.{in-set}
-use Rattle.pattern.specs.declared.Shape.{Shape}
-use Rattle.pattern.proofs.Elements.{empty-at}
-use Rattle.pattern.proofs.Places.{drop-at}
+use Rattle.pattern.specs.declared.matcher.Shape.{Shape}
+use Rattle.pattern.proofs.Places.{drop-at, empty-at}
 
 -- nothing is live before the end
 live-cons : {M : Machine} {p : ℕ} {l : List ℕ} → Live M p l → T (not (empty l))

@@ -1,4 +1,5 @@
 pub mod Answers
+pub mod Drawn
 pub mod Examples
 pub mod Machine
 pub mod Matching

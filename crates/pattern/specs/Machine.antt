@@ -9,7 +9,7 @@ use Rattle.octets.specs.Bits.{bit}
 use Rattle.octets.specs.Bytes.{lower, upper}
 use Rattle.octets.specs.Lists.{pick, empty}
 use Rattle.pattern.specs.Sets.{in-set}
-use Rattle.pattern.specs.declared.Shape.{Shape}
+use Rattle.pattern.specs.declared.matcher.Shape.{Shape}
 
 -- ---- the meaning
 

@@ -9,8 +9,8 @@ use lib.ListN.{length, drop}
 use Rattle.octets.specs.Lists.{pick}
 use Rattle.pattern.specs.Pattern.{Range}
 use Rattle.pattern.specs.Reading.{Read, read, items, Body, body}
-use Rattle.pattern.specs.declared.Item.{Item}
-use Rattle.pattern.specs.declared.Piece.{Piece}
+use Rattle.pattern.specs.declared.reader.Item.{Item}
+use Rattle.pattern.specs.declared.reader.Piece.{Piece}
 
 -- another value of what was read
 abbrev pub map-got : {A B : Type 0} → (A → B) → Option (Read A) → Option (Read B)

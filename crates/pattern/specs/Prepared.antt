@@ -9,10 +9,10 @@ use lib.ListN.{length, drop}
 use Rattle.octets.specs.Lists.{pick}
 use Rattle.pattern.specs.Pattern.{Atom, Elem, once, star, Pattern}
 use Rattle.pattern.specs.Reading.{read-pattern}
-use Rattle.pattern.specs.Sets.{drawn}
-use Rattle.pattern.specs.declared.Filled.{Filled}
-use Rattle.pattern.specs.declared.Marks.{Marks}
-use Rattle.pattern.specs.declared.Shape.{Shape}
+use Rattle.pattern.specs.Drawn.{drawn}
+use Rattle.pattern.specs.declared.edition1.Filled.{Filled}
+use Rattle.pattern.specs.declared.edition1.Marks.{Marks}
+use Rattle.pattern.specs.declared.matcher.Shape.{Shape}
 
 abbrev pub starred : Elem → Bool
 starred (once a) = false

@@ -1,10 +1,9 @@
 -- "Each list element is a set of 256 bytes": four words of 64 bits.
-use mathlib.Core.Bool.{Bool, _&&_}
+use mathlib.Core.Bool.{Bool}
 use mathlib.Core.List.{List, [], _∷_}
 use Prim.Native.Nat.{ℕ, _+_, _*_, _/_, _%_}
 use lib.ListN.{getD}
 use Rattle.octets.specs.Bits.{bit, mask}
-use Rattle.pattern.specs.Pattern.{Atom, meets}
 
 -- whether the byte b is in the set: bit b % 64 of word b / 64
 unfoldable pub in-set : List ℕ → ℕ → Bool
@@ -17,8 +16,3 @@ word f i = mask 64 (λ k. f (64 * i + k))
 -- the set of the bytes that pass the test
 unfoldable pub words : (ℕ → Bool) → List ℕ
 words f = word f 0 ∷ word f 1 ∷ word f 2 ∷ word f 3 ∷ []
-
--- the set of the bytes that an atom meets; where no sets are asked for, the empty one
-unfoldable pub drawn : Bool → Atom → List ℕ
-unfolding words
-drawn build a = words (λ b. build && meets a b)
