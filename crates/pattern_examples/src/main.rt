@@ -60,8 +60,31 @@ fn names() {
     end_line();
 }
 
+fn yes(b: bool) {
+    if b {
+        answer(Outcome::Yes);
+    } else {
+        answer(Outcome::No);
+    }
+}
+
+// Read once, for three texts; the last one's part begins at 2: y n y y
+fn read_once() {
+    let none = [0u64; 4];
+    let mut sets = [none; 60];
+    let mut before = [0u64; 60];
+    let p = b"J[oa]*e$";
+    let h = pattern::prepare(p, &mut sets, &mut before);
+    yes(pattern::test(h, &sets, &before, p, false, b"Joe"));
+    yes(pattern::test(h, &sets, &before, p, false, b"Joel"));
+    yes(pattern::test(h, &sets, &before, p, true, b"a jaoE"));
+    yes(pattern::first_match(h, &sets, &before, p, true, b"a jaoE") == 2);
+    end_line();
+}
+
 fn main() {
     marked();
     byte_zero();
     names();
+    read_once();
 }
