@@ -1,3 +1,4 @@
+pub mod Bits
 pub mod Classes
 pub mod Each
 pub mod Equal

@@ -1,18 +1,19 @@
 -- The number that `items` and `body` count down never ends a reading: any number above the length gives the same.
-use mathlib.Core.Bool.{Bool, true, false, not, _&&_}
+use mathlib.Core.Bool.{Bool, true, false, not, _&&_, _||_}
 use mathlib.Core.Option.{Option, none, some}
-use mathlib.Core.Path.{_≡_, refl, ap}
-use Prim.Native.Nat.{ℕ, zero, suc, _≤_, _<_}
-use native.Mathlib.Nat.{le-refl, not-suc-le-zero, le-step}
+use mathlib.Core.Path.{_≡_, refl, sym, ap, _∙_}
+use Prim.Native.Nat.{ℕ, zero, suc, _+_, _≤_, _<_, zero-le, suc-le-suc}
+use native.Mathlib.Nat.{le-refl, le-trans, le-of-suc-le-suc, not-suc-le-zero, le-step}
 use native.Mathlib.Omega.{arith}
 use mathlib.Core.List.{List, [], _∷_}
 use lib.ListN.{length, drop, length-drop}
-use lib.Dec.{leb, eqb}
+use lib.Dec.{T, leb, eqb}
 use Rattle.octets.specs.Lists.{text, pick, some-of, empty, peek}
 use Rattle.octets.specs.Option.{_>>=_, holds}
 use Rattle.octets.proofs.Tests.{either}
 use Rattle.octets.proofs.Options.{Ok, ok-then, bind-ext, any}
-use Rattle.pattern.specs.Pattern.{Range, Atom, byte, dot, list}
+use Rattle.pattern.specs.Pattern.{Range, Atom, byte, dot, list, Elem}
+use Rattle.pattern.specs.Places.{items-of, body-of}
 use Rattle.pattern.specs.Reading.{elem, Read, read, class-opens, range-opens, range, single, begins-item, item, items, bracket, escaped, asterisk, atom, Body, body}
 
 -- what is left is no longer than s
@@ -59,6 +60,24 @@ items-fuel (suc n) (suc m) first (b ∷ s) hn hm =
     (λ i h. ap (λ (o : Option (Read (List Range))). o >>= (λ l. read (i .got ∷ l .got) (l .rest)))
     (items-fuel n m false (i .rest) (omega (arith, h, hn)) (omega (arith, h, hm)))))
 
+-- the items without the number
+pub items-next : (first : Bool) (b : ℕ) (s : List ℕ)
+    → items-of first (b ∷ s)
+    ≡ pick (eqb b 93 && not first) (read [] s) (item first b s >>= (λ i. items-of false (i .rest) >>= (λ l. read (i .got ∷ l .got) (l .rest))))
+unfolding items
+items-next first b s =
+    ap (λ (o : Option (Read (List Range))). pick (eqb b 93 && not first) (read [] s) o)
+    (bind-ext (λ (r : Read Range). length (r .rest) ≤ length s) (item first b s)
+    (λ i. items (suc (length s)) false (i .rest) >>= (λ l. read (i .got ∷ l .got) (l .rest)))
+    (λ i. items-of false (i .rest) >>= (λ l. read (i .got ∷ l .got) (l .rest)))
+    (item-within first b s)
+    (λ i h. ap (λ (o : Option (Read (List Range))). o >>= (λ l. read (i .got ∷ l .got) (l .rest)))
+    (items-fuel (suc (length s)) (suc (length (i .rest))) false (i .rest) (omega (arith, h)) (omega arith))))
+
+pub items-none : (first : Bool) → items-of first [] ≡ none
+unfolding items
+items-none first = refl
+
 bracket-within : (s : List ℕ) → Within s (bracket s)
 bracket-within s = go (pick (eqb (peek s) 94) (drop 1 s) s) (either (λ (k : List ℕ). length k ≤ length s) (eqb (peek s) 94) (drop 1 s) s (drop-le 1 s) (le-refl (length s)))
   where
@@ -97,3 +116,32 @@ body-fuel (suc n) (suc m) first (b ∷ s) hn hm =
 
     left-of : Read Atom → List ℕ
     left-of a = pick (starred a) (drop 1 (a .rest)) (a .rest)
+
+-- the elements without the number
+pub body-next : (first : Bool) (b : ℕ) (s : List ℕ)
+    → body-of first (b ∷ s)
+    ≡ pick (eqb b 36 && empty s) (some (record { parts = []; anchored = true }))
+    (atom first b s >>= (λ a.
+    body-of false (pick (eqb (peek (a .rest)) 42) (drop 1 (a .rest)) (a .rest)) >>= (λ more.
+    some (record { parts = elem (eqb (peek (a .rest)) 42) (a .got) ∷ more .parts; anchored = more .anchored }))))
+unfolding body
+body-next first b s =
+    ap (λ (o : Option Body). pick (eqb b 36 && empty s) (some (record { parts = []; anchored = true })) o)
+    (bind-ext (λ (r : Read Atom). length (r .rest) ≤ length s) (atom first b s)
+    (λ a. body (suc (length s)) false (left-of a) >>= (λ more. some (record { parts = elem (starred a) (a .got) ∷ more .parts; anchored = more .anchored })))
+    (λ a. body-of false (left-of a) >>= (λ more. some (record { parts = elem (starred a) (a .got) ∷ more .parts; anchored = more .anchored })))
+    (atom-within first b s)
+    (λ a h.
+    let k : length (left-of a) ≤ length (a .rest) = either (λ (l : List ℕ). length l ≤ length (a .rest)) (starred a) (drop 1 (a .rest)) (a .rest) (drop-le 1 (a .rest)) (le-refl (length (a .rest))) in
+    ap (λ (o : Option Body). o >>= (λ more. some (record { parts = elem (starred a) (a .got) ∷ more .parts; anchored = more .anchored })))
+    (body-fuel (suc (length s)) (suc (length (left-of a))) false (left-of a) (omega (arith, h, k)) (omega arith))))
+  where
+    starred : Read Atom → Bool
+    starred a = eqb (peek (a .rest)) 42
+
+    left-of : Read Atom → List ℕ
+    left-of a = pick (starred a) (drop 1 (a .rest)) (a .rest)
+
+pub body-none : (first : Bool) → body-of first [] ≡ some (record { parts = []; anchored = false })
+unfolding body
+body-none first = refl

@@ -1,2 +1,17 @@
+pub mod Agreeing
+pub mod Atoms
+pub mod Choosing
+pub mod Compiled
 pub mod Countdown
+pub mod Drawing
+pub mod Elements
+pub mod Filling
+pub mod Finding
+pub mod Items
+pub mod Listing
 pub mod Meaning
+pub mod Places
+pub mod Positions
+pub mod Scan
+pub mod Stepping
+pub mod Words

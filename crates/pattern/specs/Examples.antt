@@ -6,6 +6,7 @@ use Prim.Native.String.{String}
 use mathlib.Core.List.{List, [], _∷_}
 use lib.Dec.{T}
 use Rattle.octets.specs.Lists.{text, every}
+use Rattle.pattern.specs.Answers.{was-read}
 use Rattle.pattern.specs.Pattern.{Pattern}
 use Rattle.pattern.specs.Reading.{read-pattern}
 use Rattle.pattern.specs.Matching.{written-matches, name-matches}
@@ -21,10 +22,6 @@ pub data Example : Type 0 where
 abbrev agrees : Bool → Bool → Bool
 agrees true b = b
 agrees false b = not b
-
-abbrev was-read : Option Pattern → Bool
-was-read none = false
-was-read (some p) = true
 
 abbrev passes : (Pattern → List ℕ → Bool) → Option Pattern → List ℕ → Bool → Bool
 passes test none s expected = false

@@ -1,4 +1,10 @@
+pub mod Answers
+pub mod Drawn
 pub mod Examples
+pub mod Machine
 pub mod Matching
 pub mod Pattern
+pub mod Places
+pub mod Prepared
 pub mod Reading
+pub mod Sets

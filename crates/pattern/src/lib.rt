@@ -1,1 +1,118 @@
-// Patterns: what is read from a string, and what it means that a pattern matches. The definitions stand in specs/.
+// Patterns (document 01, "Patterns (source 001)"): whether a string is one, and whether it matches a text.
+ghost use mathlib.Core.Path.{_≡_};
+ghost use lib.ListN.{length};
+ghost use Rattle.pattern.specs.Answers.{is-pattern, meets-text, outcome, first-fit};
+ghost use Rattle.pattern.specs.Prepared.{Prepared, Ready};
+
+mod draw;
+mod edition1;
+pub mod matcher;
+mod reader;
+mod sets;
+
+use crate::edition1::fill;
+use crate::edition1::no_shape;
+use crate::edition1::shape_by;
+use crate::matcher::Shape;
+use crate::matcher::leftmost;
+use crate::reader::atom_at;
+use crate::reader::behind;
+use crate::reader::is_anchor;
+use crate::reader::peek_at;
+use crate::reader::start_at;
+
+// Whether a string is a pattern. It is read once, and no set is made.
+pub fn is_pattern(s: &[u8]) -> bool
+    ensures { λ r. ⌜ r ≡ is-pattern (now (s .entry)) ⌝ }
+{
+    if s.len() == 0 {
+        return false;
+    }
+    let mut i = start_at(s);
+    let mut first = true;
+    let mut n: usize = 0;
+    while i < s.len() {
+        if is_anchor(s, i) {
+            return n <= 60;
+        }
+        let a = atom_at(s, i, first, false);
+        let end = a.end;
+        if end == 0 {
+            return false;
+        }
+        i = behind(s, end);
+        first = false;
+        n += 1;
+    }
+    n <= 60
+}
+
+// Reads a pattern into the lent places, once for many texts. A refused one gives a machine that takes no part, and leaves the
+// lent places as they are.
+pub fn prepare(p: &[u8], sets: &mut [[u64; 4]; 60], before: &mut [u64; 60]) -> Shape
+    requires { ⌜ (length (now sets) ≡ 60) × (length (now before) ≡ 60) ⌝ }
+    ensures { λ r. ⌜ Ready (now (p .entry)) r (now (sets .exit)) (now (before .exit)) ⌝ }
+    ensures { λ r. ⌜ Prepared (now (p .entry)) r (now (sets .entry)) (now (sets .exit)) (now (before .entry)) (now (before .exit)) ⌝ }
+{
+    if !is_pattern(p) {
+        return no_shape();
+    }
+    let left = peek_at(p, 0) == 94;
+    let f = fill(p, sets, before);
+    let m = f.marks;
+    shape_by(m, left, f.right)
+}
+
+// The smallest place at which a part of the text that fits begins, or one above the text's length. The pattern p is the one that was
+// prepared; it is named for the promise alone.
+pub fn first_match(
+    h: Shape,
+    sets: &[[u64; 4]; 60],
+    before: &[u64; 60],
+    p: &[u8],
+    fold: bool,
+    text: &[u8],
+) -> usize
+    requires { ⌜ Ready (now p) h (now sets) (now before) ⌝ }
+    ensures { λ r. ⌜ r ≡ first-fit fold (now (p .entry)) (now (text .entry)) ⌝ }
+{
+    leftmost(h, sets, before, fold, text)
+}
+
+// Whether the prepared pattern matches the text; fold: the text is a name.
+pub fn test(
+    h: Shape,
+    sets: &[[u64; 4]; 60],
+    before: &[u64; 60],
+    p: &[u8],
+    fold: bool,
+    text: &[u8],
+) -> bool
+    requires { ⌜ Ready (now p) h (now sets) (now before) ⌝ }
+    ensures { λ r. ⌜ r ≡ meets-text fold (now (p .entry)) (now (text .entry)) ⌝ }
+{
+    leftmost(h, sets, before, fold, text) <= text.len()
+}
+
+pub enum Outcome {
+    No,
+    Yes,
+    Refuse,
+}
+
+// Whether a string is a pattern and matches the text, read for this text alone.
+pub fn matches(p: &[u8], fold: bool, text: &[u8]) -> Outcome
+    ensures { λ r. ⌜ r ≡ outcome fold (now (p .entry)) (now (text .entry)) ⌝ }
+{
+    if !is_pattern(p) {
+        return Outcome::Refuse;
+    }
+    let none = [0u64; 4];
+    let mut sets = [none; 60];
+    let mut before = [0u64; 60];
+    let h = prepare(p, &mut sets, &mut before);
+    if test(h, &sets, &before, p, fold, text) {
+        return Outcome::Yes;
+    }
+    Outcome::No
+}

@@ -1,0 +1,14 @@
+-- A number's bits, and the number whose bits a test gives: what masks are stated with.
+use mathlib.Core.Bool.{Bool}
+use Prim.Native.Nat.{ℕ, zero, suc, _+_, _/_, _%_, _^_}
+use lib.Dec.{eqb}
+use Rattle.octets.specs.Lists.{pick}
+
+-- whether the bit k of n is set
+unfoldable pub bit : ℕ → ℕ → Bool
+bit n k = eqb (n / 2 ^ k % 2) 1
+
+-- the number whose bit k, below w, is set where the test holds of k, and which has no other
+unfoldable pub mask : ℕ → (ℕ → Bool) → ℕ
+mask zero f = 0
+mask (suc w) f = pick (f w) (2 ^ w) 0 + mask w f

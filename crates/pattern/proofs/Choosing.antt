@@ -1,0 +1,18 @@
+-- What is picked, once the test is known.
+use mathlib.Core.Path.{_≡_, sym, ap, _∙_}
+use mathlib.Core.Bool.{Bool, true, false, _||_}
+use Rattle.octets.specs.Lists.{pick}
+
+module _ {A : Type 0} (c : Bool) (r x y : A) where
+  pub picks-first : c ≡ true → r ≡ x → r ≡ pick c x y
+  picks-first e q = q ∙ ap (λ (t : Bool). pick t x y) (sym e)
+
+  pub picks-second : c ≡ false → r ≡ y → r ≡ pick c x y
+  picks-second e q = q ∙ ap (λ (t : Bool). pick t x y) (sym e)
+
+-- the first of two tests, or else the second
+pub or-first : (a b r : Bool) → r ≡ a → r ≡ true → true ≡ (a || b)
+or-first a b r e q = ap (λ (t : Bool). t || b) (sym q ∙ e)
+
+pub or-second : (a b r : Bool) → r ≡ a → r ≡ false → b ≡ (a || b)
+or-second a b r e q = ap (λ (t : Bool). t || b) (sym q ∙ e)

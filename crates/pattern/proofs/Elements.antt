@@ -1,0 +1,192 @@
+-- The elements by place: the last `$`, an atom and its `*`, the end.
+use mathlib.Core.Path.{_≡_, refl, sym, ap, _∙_, subst⁻¹}
+use mathlib.Core.Bool.{Bool, true, false, _&&_}
+use mathlib.Core.Option.{Option, none, some}
+use mathlib.Core.List.{List, [], _∷_}
+use Prim.Native.Nat.{ℕ, suc, _+_, _<_, _≤_}
+use native.Mathlib.Nat.{add-zero, zero-add}
+use native.Mathlib.Omega.{arith}
+use lib.Dec.{eqb, leb}
+use lib.ListN.{length, getD, drop, drop-of-length-le}
+use lib.Seq.{drop-drop}
+use borrow.Author.Tests.{eqb-true}
+use Rattle.octets.specs.Lists.{pick, peek}
+use Rattle.octets.specs.Option.{_>>=_, holds}
+use Rattle.octets.proofs.Tests.{either}
+use Rattle.pattern.specs.Answers.{was-read, is-pattern}
+use Rattle.pattern.specs.Pattern.{Atom, Elem, Pattern}
+use Rattle.pattern.specs.Places.{map-got, body-of, PieceAt}
+use Rattle.pattern.specs.Reading.{Read, atom, elem, Body, read-pattern}
+use Rattle.pattern.specs.Drawn.{drawn}
+use Rattle.pattern.specs.declared.reader.Piece.{Piece}
+use Rattle.pattern.proofs.Atoms.{piece-found, piece-lost, map-none, map-some}
+use Rattle.pattern.proofs.Countdown.{body-next, body-none, body-fuel}
+use Rattle.pattern.proofs.Places.{drop-at, empty-at, peek-inside}
+
+-- ---- behind an atom and its `*`
+
+pub star-inside : (s : List ℕ) (e next : ℕ) → next ≡ peek (drop e s) → next ≡ 42 → e < length s
+star-inside s e next n q = peek-inside s e (λ z. let y : _≡_ {A = ℕ} 42 256 = sym q ∙ n ∙ z in absurd (omega arith))
+
+pub behind-le : (s : List ℕ) (e : ℕ) → e ≤ length s → pick (eqb (peek (drop e s)) 42) (e + 1) e ≤ length s
+behind-le s e h = go (eqb (peek (drop e s)) 42) refl
+  where
+    go : (t : Bool) → eqb (peek (drop e s)) 42 ≡ t → pick t (e + 1) e ≤ length s
+    go true q = let l : e < length s = star-inside s e (peek (drop e s)) refl (eqb-true (peek (drop e s)) 42 q) in omega arith
+    go false q = h
+
+behind-ge : (t : Bool) (e : ℕ) → e ≤ pick t (e + 1) e
+behind-ge t e = either (λ (n : ℕ). e ≤ n) t (e + 1) e (omega arith) (omega arith)
+
+pub behind-after : (s : List ℕ) (e j : ℕ) → j ≡ pick (eqb (peek (drop e s)) 42) (e + 1) e → e ≤ j
+behind-after s e j q = subst⁻¹ (λ (k : ℕ). e ≤ k) q (behind-ge (eqb (peek (drop e s)) 42) e)
+
+behind-drop : (t : Bool) (s : List ℕ) (e : ℕ) → pick t (drop 1 (drop e s)) (drop e s) ≡ drop (pick t (e + 1) e) s
+behind-drop true s e = drop-drop 1 e s
+behind-drop false s e = refl
+
+-- ---- the elements from i on
+
+-- one element more in front
+abbrev pub with-elem : Elem → Option Body → Option Body
+with-elem x o = o >>= (λ more. some (record { parts = x ∷ more .parts; anchored = more .anchored }))
+
+-- the atom at i, and what is left behind it and its `*`
+pub record Step (build : Bool) (s : List ℕ) (i : ℕ) (first : Bool) (end : ℕ) (set : List ℕ) : Type 0 where
+  pub value : Atom
+  pub drawing : drawn build value ≡ set
+  pub left : body-of first (drop i s)
+      ≡ with-elem (elem (eqb (peek (drop end s)) 42) value) (body-of false (drop (pick (eqb (peek (drop end s)) 42) (end + 1) end) s))
+
+pub body-end : (s : List ℕ) (i : ℕ) (first : Bool) → length s ≤ i → body-of first (drop i s) ≡ some (record { parts = []; anchored = false })
+body-end s i first h = ap (body-of first) (drop-of-length-le s h) ∙ body-none first
+
+module _ (s : List ℕ) (i : ℕ) (first : Bool) (h : i < length s) where
+  abbrev b : ℕ
+  b = getD s i 0
+
+  abbrev rest : List ℕ
+  rest = drop (i + 1) s
+
+  abbrev going : Option (Read Atom) → Option Body
+  going o = o >>= (λ a. with-elem (elem (eqb (peek (a .rest)) 42) (a .got)) (body-of false (pick (eqb (peek (a .rest)) 42) (drop 1 (a .rest)) (a .rest))))
+
+  here-is : (t : Bool) → (eqb b 36 && eqb (i + 1) (length s)) ≡ t → body-of first (drop i s) ≡ pick t (some (record { parts = []; anchored = true })) (going (atom first b rest))
+  here-is t e =
+      ap (body-of first) (drop-at s i h) ∙ body-next first b rest
+      ∙ ap (λ (x : Bool). pick x (some (record { parts = []; anchored = true })) (going (atom first b rest)))
+      (ap (λ (x : Bool). eqb b 36 && x) (empty-at s (i + 1) (omega arith)) ∙ e)
+
+  pub body-last : (eqb b 36 && eqb (i + 1) (length s)) ≡ true → body-of first (drop i s) ≡ some (record { parts = []; anchored = true })
+  body-last e = here-is true e
+
+  module _ (build : Bool) (r : Piece) (a : PieceAt (map-got (drawn build) (atom first b rest)) s i r) (e : (eqb b 36 && eqb (i + 1) (length s)) ≡ false) where
+    pub body-lost : r .end ≡ 0 → body-of first (drop i s) ≡ none
+    body-lost z = here-is false e ∙ ap going (map-none (drawn build) (atom first b rest) (piece-lost a z))
+
+    pub body-more : (r .end ≡ 0 → ⊥) → Step build s i first (r .end) (r .set)
+    body-more n =
+        let g = map-some (drawn build) (atom first b rest) (r .set) (drop (r .end) s) (piece-found a n) in
+        let t = eqb (peek (drop (r .end) s)) 42 in
+        record {
+          value = g .value;
+          drawing = g .drawing;
+          left =
+              here-is false e ∙ ap going (g .is)
+              ∙ ap (λ (l : List ℕ). with-elem (elem (eqb (peek (drop (r .end) s)) 42) (g .value)) (body-of false l)) (behind-drop (eqb (peek (drop (r .end) s)) 42) s (r .end));
+        }
+
+-- ---- the whole pattern
+
+-- from behind the leading `^`
+abbrev pub start-of : List ℕ → ℕ
+start-of s = pick (eqb (peek s) 94) 1 0
+
+abbrev pub finished : Bool → Option Body → Option Pattern
+finished start o = o >>= (λ b. holds (leb (length (b .parts)) 60) >>= (λ x. some (record { at-start = start; elems = b .parts; at-end = b .anchored })))
+
+pub read-is : (s : List ℕ) → (length s ≡ 0 → ⊥) → read-pattern s ≡ finished (eqb (peek s) 94) (body-of true (drop (start-of s) s))
+unfolding read-pattern
+read-is [] n = absurd (n refl)
+read-is (c ∷ s) n =
+    ap (finished (eqb c 94))
+    (body-fuel (suc (suc (length s))) (suc (length rest)) true rest (omega (arith, short)) (omega arith) ∙ ap (body-of true) (go (eqb c 94)))
+  where
+    rest : List ℕ
+    rest = pick (eqb c 94) s (c ∷ s)
+
+    short : length rest ≤ suc (length s)
+    short = either (λ (l : List ℕ). length l ≤ suc (length s)) (eqb c 94) s (c ∷ s) (omega arith) (omega arith)
+
+    go : (t : Bool) → pick t s (c ∷ s) ≡ drop (pick t 1 0) (c ∷ s)
+    go true = refl
+    go false = refl
+
+-- ---- counting the elements
+
+abbrev pub counted : ℕ → Option Body → Bool
+counted n none = false
+counted n (some b) = leb (n + length (b .parts)) 60
+
+-- n elements before i
+pub record Counted (s : List ℕ) (i : ℕ) (first : Bool) (n : ℕ) : Type 0 where
+  pub left : counted n (body-of first (drop i s)) ≡ is-pattern s
+  pub few : n ≤ i
+  pub inside : i ≤ length s
+
+pub count-empty : (s : List ℕ) → length s ≡ 0 → false ≡ is-pattern s
+unfolding is-pattern read-pattern
+count-empty [] e = refl
+count-empty (c ∷ s) e = absurd (omega arith)
+
+count-all : (start : Bool) (o : Option Body) → was-read (finished start o) ≡ counted 0 o
+count-all start none = refl
+count-all start (some b) = go (leb (length (b .parts)) 60) ∙ ap (λ (n : ℕ). leb n 60) (sym (zero-add (length (b .parts))))
+  where
+    go : (t : Bool) → was-read (holds t >>= (λ x. some (record { at-start = start; elems = b .parts; at-end = b .anchored }))) ≡ t
+    go true = refl
+    go false = refl
+
+pub start-le : (s : List ℕ) → (length s ≡ 0 → ⊥) → start-of s ≤ length s
+start-le s n = either (λ (k : ℕ). k ≤ length s) (eqb (peek s) 94) 1 0 (omega arith) (omega arith)
+
+pub count-start : (s : List ℕ) (i : ℕ) → (length s ≡ 0 → ⊥) → i ≡ start-of s → Counted s i true 0
+unfolding is-pattern
+count-start s i n e =
+    subst⁻¹ (λ (k : ℕ). Counted s k true 0) e
+    (record {
+      left = sym (ap was-read (read-is s n) ∙ count-all (eqb (peek s) 94) (body-of true (drop (start-of s) s)));
+      few = omega arith;
+      inside = start-le s n;
+    })
+
+counted-more : (x : Elem) (n : ℕ) (o : Option Body) → counted n (with-elem x o) ≡ counted (n + 1) o
+counted-more x n none = refl
+counted-more x n (some b) = let z : n + suc (length (b .parts)) ≡ n + 1 + length (b .parts) = omega arith in ap (λ (k : ℕ). leb k 60) z
+
+pub count-done : (s : List ℕ) (i : ℕ) (first : Bool) (n : ℕ) → Counted s i first n → length s ≤ i → leb n 60 ≡ is-pattern s
+count-done s i first n c h = ap (λ (k : ℕ). leb k 60) (sym (add-zero n)) ∙ sym (ap (counted n) (body-end s i first h)) ∙ c .left
+
+module _ (s : List ℕ) (i : ℕ) (first : Bool) (n : ℕ) (c : Counted s i first n) (h : i < length s) where
+  pub count-last : (t : Bool) → t ≡ (eqb (getD s i 0) 36 && eqb (i + 1) (length s)) → t ≡ true → leb n 60 ≡ is-pattern s
+  count-last t q e = ap (λ (k : ℕ). leb k 60) (sym (add-zero n)) ∙ sym (ap (counted n) (body-last s i first h (sym q ∙ e))) ∙ c .left
+
+  module _ (r : Piece) (a : PieceAt (map-got (drawn false) (atom first (getD s i 0) (drop (i + 1) s))) s i r) (t : Bool)
+      (k : t ≡ (eqb (getD s i 0) 36 && eqb (i + 1) (length s))) (e : t ≡ false) where
+    pub count-lost : r .end ≡ 0 → false ≡ is-pattern s
+    count-lost z = sym (ap (counted n) (body-lost s i first h false r a (sym k ∙ e) z)) ∙ c .left
+
+    pub count-more : (j : ℕ) → (r .end ≡ 0 → ⊥) → j ≡ pick (eqb (peek (drop (r .end) s)) 42) (r .end + 1) (r .end) → Counted s j false (n + 1)
+    count-more j m q =
+        let g = body-more s i first h false r a (sym k ∙ e) m in
+        let x = elem (eqb (peek (drop (r .end) s)) 42) (g .value) in
+        let f : i < r .end = a .forward m in
+        let l : n ≤ i = c .few in
+        subst⁻¹ (λ (k : ℕ). Counted s k false (n + 1)) q
+        (record {
+          left =
+              sym (counted-more (elem (eqb (peek (drop (r .end) s)) 42) (g .value)) n (body-of false (drop (pick (eqb (peek (drop (r .end) s)) 42) (r .end + 1) (r .end)) s)))
+              ∙ sym (ap (counted n) (g .left)) ∙ c .left;
+          few = omega (arith, behind-ge (eqb (peek (drop (r .end) s)) 42) (r .end));
+          inside = behind-le s (r .end) (a .inside);
+        })

@@ -1,0 +1,306 @@
+-- The lent places while they are filled: what remains to be stored.
+use mathlib.Core.Path.{_≡_, refl, sym, ap, ap₂, _∙_, subst⁻¹}
+use mathlib.Core.Bool.{Bool, true, false, not, _&&_, true≢false}
+use mathlib.Core.Option.{Option, none, some}
+use mathlib.Core.List.{List, [], _∷_, _++_}
+use Prim.Native.Nat.{ℕ, suc, _+_, _<_, _≤_}
+use native.Mathlib.Nat.{zero-add}
+use native.Mathlib.Numerals.{add-one}
+use native.Mathlib.Omega.{arith}
+use lib.Dec.{eqb, leb}
+use lib.ListN.{length, getD, drop, set, length-set}
+use lib.Seq.{sets, sets-eq}
+use borrow.Author.Tests.{leb-true, not-true, not-false}
+use Rattle.octets.specs.Lists.{pick, peek}
+use Rattle.octets.specs.Option.{_>>=_, holds}
+use Rattle.pattern.specs.Answers.{was-read, is-pattern}
+use Rattle.pattern.specs.Pattern.{Atom, Elem, Pattern}
+use Rattle.pattern.specs.Places.{map-got, body-of, PieceAt}
+use Rattle.pattern.specs.Prepared.{starred, atom-of, no-marks, mark, before-at, marks, sets-of, befores, sets-after, befores-after, marks-of, ends-anchored, shape-by, no-shape, shape-of, FilledFor, Prepared, Ready}
+use Rattle.pattern.specs.Reading.{atom, elem, Body, read-pattern}
+use Rattle.pattern.specs.Drawn.{drawn}
+use Rattle.pattern.specs.declared.edition1.Filled.{Filled}
+use Rattle.pattern.specs.declared.edition1.Marks.{Marks}
+use Rattle.pattern.specs.declared.reader.Piece.{Piece}
+use Rattle.pattern.specs.declared.matcher.Shape.{Shape}
+use Rattle.pattern.proofs.Elements.{with-elem, Step, body-end, body-last, body-lost, body-more, start-of, finished, read-is, start-le, behind-le, count-empty}
+use Rattle.pattern.proofs.Positions.{at-bit}
+
+-- ---- what was read
+
+-- the pattern, where it was read
+pub record Whole (s : List ℕ) : Type 0 where
+  pub body : Body
+  pub reads : body-of true (drop (start-of s) s) ≡ some body
+  pub few : length (body .parts) ≤ 60
+  pub is : read-pattern s ≡ some (record { at-start = eqb (peek s) 94; elems = body .parts; at-end = body .anchored })
+
+whole-of : (s : List ℕ) (n : length s ≡ 0 → ⊥) → is-pattern s ≡ true → Whole s
+unfolding is-pattern
+whole-of s n e = go (body-of true (drop (start-of s) s)) refl
+  where
+    held : (b : Body) → body-of true (drop (start-of s) s) ≡ some b → (t : Bool) → leb (length (b .parts)) 60 ≡ t → Whole s
+    held b q true l =
+        record {
+          body = b;
+          reads = q;
+          few = leb-true (length (b .parts)) 60 l;
+          is =
+              read-is s n ∙ ap (finished (eqb (peek s) 94)) q
+              ∙ ap (λ (t : Bool). holds t >>= (λ x. some (record { at-start = eqb (peek s) 94; elems = b .parts; at-end = b .anchored }))) l;
+        }
+    held b q false l =
+        absurd (true≢false (sym e ∙ ap was-read (read-is s n ∙ ap (finished (eqb (peek s) 94)) q
+        ∙ ap (λ (t : Bool). holds t >>= (λ x. some (record { at-start = eqb (peek s) 94; elems = b .parts; at-end = b .anchored }))) l)))
+
+    go : (o : Option Body) → body-of true (drop (start-of s) s) ≡ o → Whole s
+    go none q = absurd (true≢false (sym e ∙ ap was-read (read-is s n ∙ ap (finished (eqb (peek s) 94)) q)))
+    go (some b) q = held b q (leb (length (b .parts)) 60) refl
+
+-- ---- the loop
+
+module _ (s : List ℕ) (w : Whole s) (old-sets : List (List ℕ)) (old-before : List ℕ) where
+  abbrev all : List Elem
+  all = w .body .parts
+
+  pub record Filling (i : ℕ) (first : Bool) (m : Marks) (ss : List (List ℕ)) (bs : List ℕ) : Type 0 where
+    pub rest : Body
+    pub reads : body-of first (drop i s) ≡ some rest
+    pub marked : marks m (rest .parts) ≡ marks no-marks all
+    pub right : rest .anchored ≡ w .body .anchored
+    pub stored : sets ss (m .at) (sets-of (rest .parts)) ≡ sets old-sets 0 (sets-of all)
+    pub masked : sets bs (m .at) (befores m (rest .parts)) ≡ sets old-before 0 (befores no-marks all)
+    pub few : m .at + length (rest .parts) ≤ 60
+    pub room-sets : length ss ≡ 60
+    pub room-before : length bs ≡ 60
+    pub inside : i ≤ length s
+
+  fill-none : (i : ℕ) (m : Marks) → (length s ≡ 0 → ⊥) → i ≡ start-of s → m ≡ no-marks → length old-sets ≡ 60 → length old-before ≡ 60 → Filling i true m old-sets old-before
+  fill-none i m n e z ls lb =
+      subst⁻¹ (λ (k : ℕ). Filling k true m old-sets old-before) e
+      (subst⁻¹ (λ (k : Marks). Filling (start-of s) true k old-sets old-before) z
+      (record {
+        rest = w .body;
+        reads = w .reads;
+        marked = refl;
+        right = refl;
+        stored = refl;
+        masked = refl;
+        few = let f : length all ≤ 60 = w .few in omega arith;
+        room-sets = ls;
+        room-before = lb;
+        inside = start-le s n;
+      }))
+
+-- the invariant: for the pattern that the whole string is
+abbrev pub Fills : List ℕ → List (List ℕ) → List ℕ → ℕ → Bool → Marks → List (List ℕ) → List ℕ → Type 0
+Fills s old-sets old-before i first m ss bs = (w : Whole s) × Filling s w old-sets old-before i first m ss bs
+
+pub fill-start : (s : List ℕ) (old-sets : List (List ℕ)) (old-before : List ℕ) (i : ℕ) → is-pattern s ≡ true → length old-sets ≡ 60 → length old-before ≡ 60
+    → i ≡ start-of s → Fills s old-sets old-before i true no-marks old-sets old-before
+fill-start s old-sets old-before i e ls lb q =
+    let n : length s ≡ 0 → ⊥ = λ z. true≢false (sym e ∙ sym (count-empty s z)) in
+    let w = whole-of s n e in
+    (w, fill-none s w old-sets old-before i no-marks n q refl ls lb)
+
+-- what the elements leave in a lent place
+lengths : (es : List Elem) → length (sets-of es) ≡ length es
+lengths [] = refl
+lengths (e ∷ es) = ap suc (lengths es)
+
+lengths-before : (m : Marks) (es : List Elem) → length (befores m es) ≡ length es
+lengths-before m [] = refl
+lengths-before m (e ∷ es) = ap suc (lengths-before (mark m (starred e)) es)
+
+laid : {A : Type 0} (l old : List A) (n : ℕ) → length l ≡ n → n ≤ length old → sets old 0 l ≡ l ++ drop n old
+laid l old n e h =
+    let q : length l ≤ length old = omega arith in
+    sets-eq l old 0 (subst⁻¹ (λ (k : ℕ). k ≤ length old) (zero-add (length l)) q) ∙ ap (λ (k : ℕ). l ++ drop k old) (zero-add (length l) ∙ e)
+
+module _ (s : List ℕ) (w : Whole s) (old-sets : List (List ℕ)) (old-before : List ℕ) (ls : length old-sets ≡ 60) (lb : length old-before ≡ 60)
+    (i : ℕ) (first : Bool) (m : Marks) (ss : List (List ℕ)) (bs : List ℕ) (f : Filling s w old-sets old-before i first m ss bs) where
+  -- nothing is left but the anchor
+  done : (right : Bool) → body-of first (drop i s) ≡ some (record { parts = []; anchored = right })
+      → FilledFor (read-pattern s) (record { marks = m; right = right }) old-sets ss old-before bs
+  done right e =
+      let q : f .rest ≡ record { parts = []; anchored = right } =
+      let z : _≡_ {A = Option Body} (some (f .rest)) (some (record { parts = []; anchored = right })) = sym (f .reads) ∙ e in cc
+      in
+      let p : f .rest .parts ≡ [] = ap (λ (b : Body). b .parts) q in
+      let few : length (w .body .parts) ≤ 60 = w .few in
+      subst⁻¹ (λ (o : Option Pattern). FilledFor o (record { marks = m; right = right }) old-sets ss old-before bs) (w .is)
+      (record {
+        all-marks = ap (marks m) (sym p) ∙ f .marked;
+        anchored = sym (ap (λ (b : Body). b .anchored) q) ∙ f .right;
+        lent-sets =
+            ap (λ (l : List Elem). sets ss (m .at) (sets-of l)) (sym p) ∙ f .stored
+            ∙ laid (sets-of (w .body .parts)) old-sets (length (w .body .parts)) (lengths (w .body .parts)) (omega arith);
+        lent-before =
+            ap (λ (l : List Elem). sets bs (m .at) (befores m l)) (sym p) ∙ f .masked
+            ∙ laid (befores no-marks (w .body .parts)) old-before (length (w .body .parts)) (lengths-before no-marks (w .body .parts)) (omega arith);
+      })
+
+  pub fill-end : length s ≤ i → FilledFor (read-pattern s) (record { marks = m; right = false }) old-sets ss old-before bs
+  fill-end h = done false (body-end s i first h)
+
+  pub fill-last : i < length s → (eqb (getD s i 0) 36 && eqb (i + 1) (length s)) ≡ true → FilledFor (read-pattern s) (record { marks = m; right = true }) old-sets ss old-before bs
+  fill-last h e = done true (body-last s i first h e)
+
+  module _ (h : i < length s) (r : Piece) (a : PieceAt (map-got (drawn true) (atom first (getD s i 0) (drop (i + 1) s))) s i r)
+      (e : (eqb (getD s i 0) 36 && eqb (i + 1) (length s)) ≡ false) where
+    pub fill-found : r .end ≡ 0 → ⊥
+    fill-found z =
+        let q : _≡_ {A = Option Body} none (some (f .rest)) = sym (body-lost s i first h true r a e z) ∙ f .reads in
+        let y : _≡_ {A = ℕ} 0 1 = cc in omega arith
+
+    abbrev repeats : Bool
+    repeats = eqb (peek (drop (r .end) s)) 42
+
+    abbrev j : ℕ
+    j = pick repeats (r .end + 1) (r .end)
+
+    -- the element at i, and those behind it
+    record Split : Type 0 where
+      value : Atom
+      more : Body
+      drawing : drawn true value ≡ r .set
+      reads : body-of false (drop j s) ≡ some more
+      is : f .rest ≡ record { parts = elem repeats value ∷ more .parts; anchored = more .anchored }
+
+    split : Split
+    split = go (body-more s i first h true r a e fill-found) (body-of false (drop j s)) refl
+      where
+        go : (g : Step true s i first (r .end) (r .set)) (o : Option Body) → body-of false (drop j s) ≡ o → Split
+        go g none q =
+            let z : _≡_ {A = Option Body} none (some (f .rest)) = sym (g .left ∙ ap (with-elem (elem repeats (g .value))) q) ∙ f .reads in
+            absurd (let y : _≡_ {A = ℕ} 0 1 = cc in omega arith)
+        go g (some more) q =
+            let z : _≡_ {A = Option Body} (some (record { parts = elem repeats (g .value) ∷ more .parts; anchored = more .anchored })) (some (f .rest)) =
+            sym (g .left ∙ ap (with-elem (elem repeats (g .value))) q) ∙ f .reads
+            in
+            record { value = g .value; more = more; drawing = g .drawing; reads = q; is = cc }
+
+    starred-elem : (t : Bool) (x : Atom) → starred (elem t x) ≡ t
+    starred-elem true x = refl
+    starred-elem false x = refl
+
+    atom-elem : (t : Bool) (x : Atom) → atom-of (elem t x) ≡ x
+    atom-elem true x = refl
+    atom-elem false x = refl
+
+    pub fill-room : m .at < 60
+    fill-room =
+        let p : length (f .rest .parts) ≡ suc (length (split .more .parts)) = ap (λ (b : Body). length (b .parts)) (split .is) in
+        let k : m .at + length (f .rest .parts) ≤ 60 = f .few in
+        omega arith
+
+    pub fill-more : (i′ : ℕ) (m′ : Marks) (v : ℕ) (t : Bool) → t ≡ repeats → i′ ≡ j → m′ ≡ mark m t → v ≡ before-at m t
+        → Filling s w old-sets old-before i′ false m′ (set ss (m .at) (r .set)) (set bs (m .at) v)
+    fill-more i′ m′ v t et ei em ev =
+        let x = split in
+        let xs : List Elem = x .more .parts in
+        let p : f .rest .parts ≡ elem repeats (x .value) ∷ x .more .parts = ap (λ (b : Body). b .parts) (x .is) in
+        let one : starred (elem repeats (x .value)) ≡ t = starred-elem repeats (x .value) ∙ sym et in
+        let draw : drawn true (atom-of (elem repeats (x .value))) ≡ r .set = ap (drawn true) (atom-elem repeats (x .value)) ∙ x .drawing in
+        let few : m .at + length (f .rest .parts) ≤ 60 = f .few in
+        let long : length (f .rest .parts) ≡ suc (length (x .more .parts)) = ap length p in
+        subst⁻¹ (λ (k : ℕ). Filling s w old-sets old-before k false m′ (set ss (m .at) (r .set)) (set bs (m .at) v)) ei
+        (subst⁻¹ (λ (k : Marks). Filling s w old-sets old-before j false k (set ss (m .at) (r .set)) (set bs (m .at) v)) em
+        (record {
+          rest = x .more;
+          reads = x .reads;
+          marked = ap (λ (b : Bool). marks (mark m b) (x .more .parts)) (sym one) ∙ ap (marks m) (sym p) ∙ f .marked;
+          right = sym (ap (λ (b : Body). b .anchored) (x .is)) ∙ f .right;
+          stored =
+              ap₂ (λ (k : ℕ) (y : List ℕ). sets (set ss (m .at) y) k (sets-of (x .more .parts))) (add-one (m .at)) (sym draw)
+              ∙ ap (λ (l : List Elem). sets ss (m .at) (sets-of l)) (sym p) ∙ f .stored;
+          masked =
+              ap₂ (λ (k : ℕ) (y : ℕ). sets (set bs (m .at) y) k (befores (mark m t) (x .more .parts))) (add-one (m .at)) ev
+              ∙ ap (λ (b : Bool). sets (set bs (m .at) (before-at m b)) (suc (m .at)) (befores (mark m b) (x .more .parts))) (sym one)
+              ∙ ap (λ (l : List Elem). sets bs (m .at) (befores m l)) (sym p) ∙ f .masked;
+          few = omega arith;
+          room-sets = length-set ss (m .at) (r .set) ∙ f .room-sets;
+          room-before = length-set bs (m .at) v ∙ f .room-before;
+          inside = behind-le s (r .end) (a .inside);
+        }))
+
+-- ---- the whole
+
+pub shape-is : (m : Marks) (left right : Bool) (inner stops : ℕ) → inner ≡ pick left 0 (m .lead) → stops ≡ pick right 0 (m .run)
+    → _≡_ {A = Shape}
+    (record {
+      size = m .at;
+      start = m .lead;
+      inner = inner;
+      ends = m .run;
+      stops = stops;
+      whole = m .free;
+      head = m .free && not right;
+      tail = m .free && not left;
+      middle = m .free && not left && not right;
+    })
+    (shape-by m left right)
+shape-is m left right inner stops e q =
+    ap₂ (λ (x y : ℕ). record {
+      size = m .at;
+      start = m .lead;
+      inner = x;
+      ends = m .run;
+      stops = y;
+      whole = m .free;
+      head = m .free && not right;
+      tail = m .free && not left;
+      middle = m .free && not left && not right;
+    }) e q
+
+pub accepted : (s : List ℕ) (t : Bool) → t ≡ is-pattern s → not t ≡ false → is-pattern s ≡ true
+accepted s t e n = sym e ∙ not-false t n
+
+module _ (p : List ℕ) (r : Shape) (old-sets : List (List ℕ)) (old-before : List ℕ) (t : Bool) (e : t ≡ is-pattern p) where
+  refused : (o : Option Pattern) → read-pattern p ≡ o → was-read o ≡ false → r ≡ no-shape → Prepared p r old-sets old-sets old-before old-before
+  refused none q u z =
+      record {
+        shape = z ∙ ap shape-of (sym q);
+        lent-sets = ap (λ (o : Option Pattern). sets-after o old-sets) (sym q);
+        lent-before = ap (λ (o : Option Pattern). befores-after o old-before) (sym q);
+      }
+  refused (some x) q u z = absurd (true≢false u)
+
+  pub prepare-refused : not t ≡ true → r ≡ no-shape → Prepared p r old-sets old-sets old-before old-before
+  unfolding is-pattern
+  prepare-refused n z = refused (read-pattern p) refl (sym e ∙ not-true t n) z
+
+  pub prepare-on : (sets : List (List ℕ)) (before : List ℕ) (next : ℕ) (f : Filled) → not t ≡ false → next ≡ peek p
+      → FilledFor (read-pattern p) f old-sets sets old-before before → r ≡ shape-by (f .marks) (eqb next 94) (f .right)
+      → Prepared p r old-sets sets old-before before
+  prepare-on sets before next f n q g z =
+      let y : is-pattern p ≡ true = sym e ∙ not-false t n in
+      let w = whole-of p (λ k. true≢false (sym y ∙ sym (count-empty p k))) y in
+      record {
+        shape =
+            z ∙ ap₂ (λ (m : Marks) (b : Bool). shape-by m (eqb next 94) b) (g .all-marks) (g .anchored)
+            ∙ ap (λ (k : ℕ). shape-by (marks-of (read-pattern p)) (eqb k 94) (ends-anchored (read-pattern p))) q
+            ∙ ap (λ (o : Option Pattern). shape-by (marks-of o) (eqb (peek p) 94) (ends-anchored o)) (w .is) ∙ ap shape-of (sym (w .is));
+        lent-sets = g .lent-sets;
+        lent-before = g .lent-before;
+      }
+
+pub prepared-ready : (p : List ℕ) (h : Shape) (old-sets sets : List (List ℕ)) (old-before before : List ℕ) → Prepared p h old-sets sets old-before before
+    → Ready p h sets before
+prepared-ready p h old-sets sets old-before before q = record { old-sets = old-sets; old-before = old-before; prepared = q }
+
+-- a pattern has at most 60 positions
+size-few : (p : List ℕ) (o : Option Pattern) → read-pattern p ≡ o → shape-of o .size ≤ 60
+unfolding is-pattern
+size-few p none e = omega arith
+size-few p (some x) e =
+    let y : is-pattern p ≡ true = ap was-read e in
+    let w = whole-of p (λ k. true≢false (sym y ∙ sym (count-empty p k))) y in
+    let q : _≡_ {A = Option Pattern} (some x) (some (record { at-start = eqb (peek p) 94; elems = w .body .parts; at-end = w .body .anchored })) = sym e ∙ w .is in
+    let z : x ≡ record { at-start = eqb (peek p) 94; elems = w .body .parts; at-end = w .body .anchored } = cc in
+    let n : length (x .elems) ≡ length (w .body .parts) = ap (λ (k : Pattern). length (k .elems)) z in
+    let f : length (w .body .parts) ≤ 60 = w .few in
+    omega (arith, at-bit no-marks (x .elems))
+
+pub ready-few : (p : List ℕ) (h : Shape) (sets : List (List ℕ)) (before : List ℕ) → Ready p h sets before → h .size ≤ 60
+ready-few p h sets before r = subst⁻¹ (λ (k : Shape). k .size ≤ 60) (r .prepared .shape) (size-few p (read-pattern p) refl)

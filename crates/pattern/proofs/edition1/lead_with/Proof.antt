@@ -1,0 +1,16 @@
+use borrow.Author.Needs.{needs}
+use Rattle.pattern.proofs.Choosing.{picks-first}
+use Rattle.pattern.proofs.edition1.lead_with.Statement.{statement}
+use Rattle.pattern.proofs.edition1.lead_with.Tie as tie
+
+with-position-requires : tie.Need-with-position-requires
+with-position-requires c κs = search needs
+
+returns : tie.Need-returns
+returns c = picks-first _ _ _ _ (c .before .if1 .taken) (c .with-position .ensures)
+
+returns-2 : tie.Need-returns-2
+returns-2 c = search needs
+
+pub lead-with-spec : {M : Type 1} → statement M
+lead-with-spec = tie.close (tie.spec with-position-requires returns returns-2)

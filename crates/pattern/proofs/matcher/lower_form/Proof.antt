@@ -1,0 +1,18 @@
+use borrow.Author.Needs.{needs}
+use Rattle.pattern.proofs.Choosing.{picks-first, picks-second}
+use mathlib.Core.Path.{refl}
+use Rattle.pattern.proofs.matcher.lower_form.Statement.{statement}
+use Rattle.pattern.proofs.matcher.lower_form.Tie as tie
+use Rattle.octets.proofs.lower_of.Reads as lower-of-reads
+
+lower-of-requires : tie.Need-lower-of-requires
+lower-of-requires c κs = search needs
+
+returns : tie.Need-returns
+returns c = picks-first _ _ _ _ (c .before .if1 .taken) (c .lower-of .ensures)
+
+returns-2 : tie.Need-returns-2
+returns-2 c = picks-second _ _ _ _ (c .if1 .left) refl
+
+pub lower-form-spec : {M : Type 1} → statement M
+lower-form-spec = tie.close (tie.spec lower-of-requires returns returns-2)

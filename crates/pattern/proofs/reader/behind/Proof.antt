@@ -1,0 +1,26 @@
+use borrow.Author.Needs.{needs}
+use Rattle.pattern.proofs.Elements.{star-inside}
+use Rattle.pattern.proofs.Places.{peek-yes, peek-no}
+use lib.ListN.{length}
+use Prim.Native.Nat.{_<_}
+use native.Mathlib.Omega.{arith}
+use Rattle.pattern.proofs.reader.behind.Statement.{statement}
+use Rattle.pattern.proofs.reader.behind.Tie as tie
+
+peek-at-requires : tie.Need-peek-at-requires
+peek-at-requires c κs = search needs
+
+add-result : tie.Need-add-result
+add-result c =
+    let a = c .before .before .before .args in
+    let h : a .end < length (a .s .now) = search star-inside in
+    omega arith
+
+returns : tie.Need-returns
+returns c = search peek-yes
+
+returns-2 : tie.Need-returns-2
+returns-2 c = search peek-no
+
+pub behind-spec : {M : Type 1} → statement M
+behind-spec = tie.close (tie.spec peek-at-requires add-result returns returns-2)

@@ -1,0 +1,83 @@
+-- A machine of at most 60 positions, and where a part of a text that it takes begins. It knows no edition of patterns.
+use mathlib.Core.Path.{_≡_}
+use mathlib.Core.Bool.{Bool, not, _&&_, _||_}
+use mathlib.Core.List.{List, [], _∷_}
+use Prim.Native.Nat.{ℕ, _+_, _<_, _≤_}
+use lib.Dec.{T, eqb, ltb}
+use lib.ListN.{getD, drop, length}
+use Rattle.octets.specs.Bits.{bit}
+use Rattle.octets.specs.Bytes.{lower, upper}
+use Rattle.octets.specs.Lists.{pick, empty}
+use Rattle.pattern.specs.Sets.{in-set}
+use Rattle.pattern.specs.declared.matcher.Shape.{Shape}
+
+-- ---- the meaning
+
+-- Which positions may begin a part (true: at the text's start), end one (true: at the text's end), come right after another, and
+-- meet a byte, and whether the empty part fits.
+pub record Machine : Type 0 where
+  pub first : Bool → ℕ → Bool
+  pub last : Bool → ℕ → Bool
+  pub follow : ℕ → ℕ → Bool
+  pub meets : ℕ → ℕ → Bool
+  pub null : Bool → Bool → Bool
+
+-- p meets the first byte of the text, and from there on a part runs to its end
+pub data Live (M : Machine) : ℕ → List ℕ → Type 0 where
+  live-end : {p b : ℕ} {s : List ℕ} → T (M .meets p b) → T (M .last (empty s) p) → Live M p (b ∷ s)
+  live-on : {p q b : ℕ} {s : List ℕ} → T (M .meets p b) → T (M .follow p q) → Live M q s → Live M p (b ∷ s)
+
+-- a part begins at the front of the text
+pub data Starts (M : Machine) (a : Bool) : List ℕ → Type 0 where
+  starts-none : {s : List ℕ} → T (M .null a (empty s)) → Starts M a s
+  starts-live : {p : ℕ} {s : List ℕ} → T (M .first a p) → Live M p s → Starts M a s
+
+-- a part begins at j
+abbrev pub StartsAt : Machine → List ℕ → ℕ → Type 0
+StartsAt M s j = Starts M (eqb j 0) (drop j s)
+
+-- r is the smallest place at which a part begins, or one above the length where there is none
+pub record Leftmost (M : Machine) (s : List ℕ) (r : ℕ) : Type 0 where
+  pub within : r ≤ length s + 1
+  pub before : (j : ℕ) → j < r → j ≤ length s → StartsAt M s j → ⊥
+  pub found : r ≤ length s → StartsAt M s r
+
+-- ---- the machine that the code holds: masks, a set and a mask of what may stand before it for each position
+
+abbrev pub first-mask : Shape → Bool → ℕ
+first-mask h a = pick a (h .start) (h .inner)
+
+abbrev pub last-mask : Shape → Bool → ℕ
+last-mask h e = pick e (h .ends) (h .stops)
+
+abbrev pub null-at : Shape → Bool → Bool → Bool
+null-at h a e = pick a (pick e (h .whole) (h .head)) (pick e (h .tail) (h .middle))
+
+-- a byte's forms on a name (fold), and the byte itself elsewhere
+abbrev pub lower-as : Bool → ℕ → ℕ
+lower-as fold b = pick fold (lower b) b
+
+abbrev pub upper-as : Bool → ℕ → ℕ
+upper-as fold b = pick fold (upper b) b
+
+-- the position p is one, and its set has one of the two bytes
+unfoldable pub met : ℕ → List (List ℕ) → ℕ → ℕ → ℕ → Bool
+unfolding in-set
+met size sets x y p = ltb p size && (in-set (getD sets p []) x || in-set (getD sets p []) y)
+
+abbrev pub machine-of : Shape → List (List ℕ) → List ℕ → Bool → Machine
+machine-of h sets before fold = record {
+  first = λ a p. bit (first-mask h a) p;
+  last = λ e p. bit (last-mask h e) p;
+  follow = λ p q. ltb q (h .size) && bit (getD before q 0) p;
+  meets = λ p b. met (h .size) sets (lower-as fold b) (upper-as fold b) p;
+  null = null-at h;
+}
+
+-- ---- one byte
+
+-- Of the candidates that are no longer left: `live` are those that meet the byte, `next` those that may stand before a live one.
+pub record Stepped (sets : List (List ℕ)) (before : List ℕ) (size candidates x y left live next : ℕ) : Type 0 where
+  pub kept : (k : ℕ) → bit live k ≡ (bit candidates k && not (bit left k) && met size sets x y k)
+  pub back : (p : ℕ) → T (bit next p) → (q : ℕ) × T (bit live q) × T (bit (getD before q 0) p)
+  pub forth : (p q : ℕ) → T (bit live q) → T (bit (getD before q 0) p) → T (bit next p)

@@ -1,0 +1,116 @@
+-- What stands in the lent places for a pattern: a position for each element.
+use mathlib.Core.Path.{_≡_}
+use mathlib.Core.Bool.{Bool, true, false, not, _&&_}
+use mathlib.Core.Option.{Option, none, some}
+use mathlib.Core.List.{List, [], _∷_, _++_}
+use Prim.Native.Nat.{ℕ, _+_, _^_}
+use lib.Bits.{bitOr}
+use lib.ListN.{length, drop}
+use Rattle.octets.specs.Lists.{pick}
+use Rattle.pattern.specs.Pattern.{Atom, Elem, once, star, Pattern}
+use Rattle.pattern.specs.Reading.{read-pattern}
+use Rattle.pattern.specs.Drawn.{drawn}
+use Rattle.pattern.specs.declared.edition1.Filled.{Filled}
+use Rattle.pattern.specs.declared.edition1.Marks.{Marks}
+use Rattle.pattern.specs.declared.matcher.Shape.{Shape}
+
+abbrev pub starred : Elem → Bool
+starred (once a) = false
+starred (star a) = true
+
+abbrev pub atom-of : Elem → Atom
+atom-of (once a) = a
+atom-of (star a) = a
+
+-- ---- masks, one element after the other
+
+-- Of the elements before the position `at`: `run` are those that may come right before it, `lead` those that may come first, and
+-- `free` says that all may be left out.
+abbrev pub no-marks : Marks
+no-marks = record { at = 0; run = 0; lead = 0; free = true }
+
+-- one element more
+abbrev pub mark : Marks → Bool → Marks
+mark m repeats = record {
+  at = m .at + 1;
+  run = pick repeats (bitOr (m .run) (2 ^ m .at)) (2 ^ m .at);
+  lead = pick (m .free) (bitOr (m .lead) (2 ^ m .at)) (m .lead);
+  free = m .free && repeats;
+}
+
+-- what may come right before that element: one that repeats may follow itself
+abbrev pub before-at : Marks → Bool → ℕ
+before-at m repeats = pick repeats (bitOr (m .run) (2 ^ m .at)) (m .run)
+
+abbrev pub marks : Marks → List Elem → Marks
+marks m [] = m
+marks m (e ∷ es) = marks (mark m (starred e)) es
+
+-- ---- the lent places
+
+-- a set for each element
+abbrev pub sets-of : List Elem → List (List ℕ)
+sets-of [] = []
+sets-of (e ∷ es) = drawn true (atom-of e) ∷ sets-of es
+
+-- and what may come right before it
+abbrev pub befores : Marks → List Elem → List ℕ
+befores m [] = []
+befores m (e ∷ es) = before-at m (starred e) ∷ befores (mark m (starred e)) es
+
+-- `^` lets a part begin only at the text's start, `$` lets it end only at the text's end
+abbrev pub shape-by : Marks → Bool → Bool → Shape
+shape-by m left right = record {
+  size = m .at;
+  start = m .lead;
+  inner = pick left 0 (m .lead);
+  ends = m .run;
+  stops = pick right 0 (m .run);
+  whole = m .free;
+  head = m .free && not right;
+  tail = m .free && not left;
+  middle = m .free && not left && not right;
+}
+
+-- no part fits
+abbrev pub no-shape : Shape
+no-shape = record { size = 0; start = 0; inner = 0; ends = 0; stops = 0; whole = false; head = false; tail = false; middle = false }
+
+abbrev pub shape-of : Option Pattern → Shape
+shape-of none = no-shape
+shape-of (some p) = shape-by (marks no-marks (p .elems)) (p .at-start) (p .at-end)
+
+-- places behind the pattern's elements, and all places where it is refused, keep what they held
+abbrev pub sets-after : Option Pattern → List (List ℕ) → List (List ℕ)
+sets-after none old = old
+sets-after (some p) old = sets-of (p .elems) ++ drop (length (p .elems)) old
+
+abbrev pub befores-after : Option Pattern → List ℕ → List ℕ
+befores-after none old = old
+befores-after (some p) old = befores no-marks (p .elems) ++ drop (length (p .elems)) old
+
+-- what `fill` answers of a pattern
+abbrev pub marks-of : Option Pattern → Marks
+marks-of none = no-marks
+marks-of (some p) = marks no-marks (p .elems)
+
+abbrev pub ends-anchored : Option Pattern → Bool
+ends-anchored none = false
+ends-anchored (some p) = p .at-end
+
+pub record FilledFor (o : Option Pattern) (r : Filled) (old-sets sets : List (List ℕ)) (old-before before : List ℕ) : Type 0 where
+  pub all-marks : r .marks ≡ marks-of o
+  pub anchored : r .right ≡ ends-anchored o
+  pub lent-sets : sets ≡ sets-after o old-sets
+  pub lent-before : before ≡ befores-after o old-before
+
+-- what `prepare` leaves, and what `test` needs
+pub record Prepared (p : List ℕ) (h : Shape) (old-sets sets : List (List ℕ)) (old-before before : List ℕ) : Type 0 where
+  pub shape : h ≡ shape-of (read-pattern p)
+  pub lent-sets : sets ≡ sets-after (read-pattern p) old-sets
+  pub lent-before : before ≡ befores-after (read-pattern p) old-before
+
+pub record Ready (p : List ℕ) (h : Shape) (sets : List (List ℕ)) (before : List ℕ) : Type 0 where
+  pub old-sets : List (List ℕ)
+  pub old-before : List ℕ
+  pub prepared : Prepared p h old-sets sets old-before before

@@ -1,0 +1,165 @@
+// Patterns of edition 1 as machines: a position for each element.
+ghost use mathlib.Core.Path.{_≡_};
+ghost use mathlib.Core.Bool.{true};
+ghost use Prim.Native.Nat.{_^_, _<_};
+ghost use lib.Bits.{bitOr};
+ghost use lib.ListN.{length};
+ghost use Rattle.octets.specs.Lists.{pick};
+ghost use Rattle.pattern.specs.Answers.{is-pattern};
+ghost use Rattle.pattern.specs.Prepared.{mark as marked, before-at, shape-by, no-shape, FilledFor};
+ghost use Rattle.pattern.specs.Reading.{read-pattern};
+use crate::matcher::Shape;
+use crate::reader::atom_at;
+use crate::reader::behind;
+use crate::reader::is_anchor;
+use crate::reader::peek_at;
+use crate::reader::start_at;
+
+// Of the elements before the position `at`: those that may come right before it, those that may come first, and whether all may
+// be left out.
+pub struct Marks {
+    pub at: usize,
+    pub run: u64,
+    pub lead: u64,
+    pub free: bool,
+}
+
+fn with_position(m: u64, at: usize) -> u64
+    requires { ⌜ at < 64 ⌝ }
+    ensures { λ r. ⌜ r ≡ bitOr m (2 ^ at) ⌝ }
+{
+    m | 1 << at
+}
+
+// What may come right before the element at this position.
+fn before_at(m: Marks, repeats: bool) -> u64
+    requires { ⌜ m .at < 64 ⌝ }
+    ensures { λ r. ⌜ r ≡ before-at m repeats ⌝ }
+{
+    if repeats {
+        return with_position(m.run, m.at);
+    }
+    m.run
+}
+
+// The run and the lead with this element.
+fn run_with(m: Marks, repeats: bool) -> u64
+    requires { ⌜ m .at < 64 ⌝ }
+    ensures { λ r. ⌜ r ≡ pick repeats (bitOr (m .run) (2 ^ m .at)) (2 ^ m .at) ⌝ }
+{
+    if repeats {
+        return with_position(m.run, m.at);
+    }
+    with_position(0, m.at)
+}
+
+fn lead_with(m: Marks) -> u64
+    requires { ⌜ m .at < 64 ⌝ }
+    ensures { λ r. ⌜ r ≡ pick (m .free) (bitOr (m .lead) (2 ^ m .at)) (m .lead) ⌝ }
+{
+    if m.free {
+        return with_position(m.lead, m.at);
+    }
+    m.lead
+}
+
+fn mark(m: Marks, repeats: bool) -> Marks
+    requires { ⌜ m .at < 64 ⌝ }
+    ensures { λ r. ⌜ r ≡ marked m repeats ⌝ }
+{
+    let run = run_with(m, repeats);
+    let lead = lead_with(m);
+    Marks {
+        at: m.at + 1,
+        run,
+        lead,
+        free: m.free & repeats,
+    }
+}
+
+// All elements, and whether `$` anchors the end.
+pub struct Filled {
+    pub marks: Marks,
+    pub right: bool,
+}
+
+// The elements' sets and masks, written to the lent places one after the other.
+pub(crate) fn fill(s: &[u8], sets: &mut [[u64; 4]; 60], before: &mut [u64; 60]) -> Filled
+    requires { ⌜ (is-pattern (now s) ≡ true) × (length (now sets) ≡ 60) × (length (now before) ≡ 60) ⌝ }
+    ensures { λ r. ⌜ FilledFor (read-pattern (now (s .entry))) r (now (sets .entry)) (now (sets .exit)) (now (before .entry)) (now (before .exit)) ⌝ }
+{
+    let mut i = start_at(s);
+    let mut first = true;
+    let mut m = Marks {
+        at: 0,
+        run: 0,
+        lead: 0,
+        free: true,
+    };
+    while i < s.len() {
+        if is_anchor(s, i) {
+            return Filled {
+                marks: m,
+                right: true,
+            };
+        }
+        let a = atom_at(s, i, first, true);
+        let repeats = peek_at(s, a.end) == 42;
+        let at = m.at;
+        let set = a.set;
+        sets[at] = set;
+        before[at] = before_at(m, repeats);
+        m = mark(m, repeats);
+        i = behind(s, a.end);
+        first = false;
+    }
+    Filled {
+        marks: m,
+        right: false,
+    }
+}
+
+fn unless(flag: bool, mask: u64) -> u64
+    ensures { λ r. ⌜ r ≡ pick flag 0 mask ⌝ }
+{
+    if flag {
+        return 0;
+    }
+    mask
+}
+
+// The machine of all elements, with the anchors `^` and `$`.
+pub(crate) fn shape_by(m: Marks, left: bool, right: bool) -> Shape
+    ensures { λ r. ⌜ r ≡ shape-by m left right ⌝ }
+{
+    let inner = unless(left, m.lead);
+    let stops = unless(right, m.run);
+    Shape {
+        size: m.at,
+        start: m.lead,
+        inner,
+        ends: m.run,
+        stops,
+        whole: m.free,
+        head: m.free & !right,
+        tail: m.free & !left,
+        middle: m.free & !left & !right,
+    }
+}
+
+// The machine that takes no part.
+pub(crate) fn no_shape() -> Shape
+    ensures { λ r. ⌜ r ≡ no-shape ⌝ }
+{
+    Shape {
+        size: 0,
+        start: 0,
+        inner: 0,
+        ends: 0,
+        stops: 0,
+        whole: false,
+        head: false,
+        tail: false,
+        middle: false,
+    }
+}

@@ -1,0 +1,174 @@
+// The matcher: a machine of at most 60 positions, a bit for each. It knows no edition of patterns.
+ghost use mathlib.Core.Path.{_≡_};
+ghost use mathlib.Core.Bool.{true, not, _||_};
+ghost use Prim.Native.Nat.{_+_, _≤_, _<_};
+ghost use lib.Bits.{bitAnd};
+ghost use lib.Dec.{eqb};
+ghost use Rattle.octets.specs.Lists.{pick};
+ghost use Rattle.pattern.specs.Machine.{Stepped, Leftmost, first-mask, last-mask, null-at, lower-as, upper-as, machine-of};
+ghost use Rattle.pattern.specs.Sets.{in-set};
+use crate::sets::has;
+
+// Which positions may begin a part, at the text's start or elsewhere; which may end one, at the text's end or elsewhere; and
+// whether the empty part fits: as the whole text, at its start, at its end, or between.
+pub struct Shape {
+    pub size: usize,
+    pub start: u64,
+    pub inner: u64,
+    pub ends: u64,
+    pub stops: u64,
+    pub whole: bool,
+    pub head: bool,
+    pub tail: bool,
+    pub middle: bool,
+}
+
+// Positions that are live before a byte, and those that may stand before one of them.
+pub struct Front {
+    pub live: u64,
+    pub next: u64,
+}
+
+fn has_either(set: [u64; 4], x: u8, y: u8) -> bool
+    ensures { λ r. ⌜ r ≡ (in-set set x || in-set set y) ⌝ }
+{
+    if has(set, x) {
+        return true;
+    }
+    if x == y {
+        return false;
+    }
+    has(set, y)
+}
+
+// Of the candidates, the positions that meet a byte whose two forms are x and y. Only the candidates are looked at.
+fn step(
+    sets: &[[u64; 4]; 60],
+    before: &[u64; 60],
+    size: usize,
+    candidates: u64,
+    x: u8,
+    y: u8,
+) -> Front
+    requires { ⌜ size ≤ 60 ⌝ }
+    ensures { λ r. ⌜ Stepped (now (sets .entry)) (now (before .entry)) size candidates x y 0 (r .live) (r .next) ⌝ }
+{
+    let mut left = candidates;
+    let mut live: u64 = 0;
+    let mut next: u64 = 0;
+    while left != 0 {
+        let p = u64::trailing_zeros(left) as usize;
+        left = left ^ 1 << p;
+        if p < size {
+            if has_either(sets[p], x, y) {
+                live = live | 1 << p;
+                next = next | before[p];
+            }
+        }
+    }
+    Front { live, next }
+}
+
+fn lower_form(fold: bool, b: u8) -> u8
+    ensures { λ r. ⌜ r ≡ lower-as fold b ⌝ }
+{
+    if fold {
+        return octets::lower_of(b);
+    }
+    b
+}
+
+fn upper_form(fold: bool, b: u8) -> u8
+    ensures { λ r. ⌜ r ≡ upper-as fold b ⌝ }
+{
+    if fold {
+        return octets::upper_of(b);
+    }
+    b
+}
+
+fn last_of(h: Shape, end: bool) -> u64
+    ensures { λ r. ⌜ r ≡ last-mask h end ⌝ }
+{
+    if end {
+        return h.ends;
+    }
+    h.stops
+}
+
+fn first_of(h: Shape, start: bool) -> u64
+    ensures { λ r. ⌜ r ≡ first-mask h start ⌝ }
+{
+    if start {
+        return h.start;
+    }
+    h.inner
+}
+
+// Whether the empty part fits.
+fn empty_fits(h: Shape, start: bool, end: bool) -> bool
+    ensures { λ r. ⌜ r ≡ null-at h start end ⌝ }
+{
+    if start {
+        if end {
+            return h.whole;
+        }
+        return h.head;
+    }
+    if end {
+        return h.tail;
+    }
+    h.middle
+}
+
+// Whether a part begins here.
+fn begins(h: Shape, start: bool, end: bool, live: u64) -> bool
+    ensures { λ r. ⌜ r ≡ (null-at h start end || not (eqb (bitAnd (first-mask h start) live) 0)) ⌝ }
+{
+    if empty_fits(h, start, end) {
+        return true;
+    }
+    first_of(h, start) & live != 0
+}
+
+// The text's end, where the empty part fits there, or one above it.
+fn end_place(h: Shape, n: usize) -> usize
+    requires { ⌜ n < 9223372036854775808 ⌝ }
+    ensures { λ r. ⌜ r ≡ pick (null-at h (eqb n 0) true || not (eqb (bitAnd (first-mask h (eqb n 0)) 0) 0)) n (n + 1) ⌝ }
+{
+    if begins(h, n == 0, true, 0) {
+        return n;
+    }
+    n + 1
+}
+
+// The smallest place at which a part of the text fits, or one above its length: a scan from the end, so that what is live before
+// a byte follows from what is live behind it, and the last place found is the smallest.
+pub(crate) fn leftmost(
+    h: Shape,
+    sets: &[[u64; 4]; 60],
+    before: &[u64; 60],
+    fold: bool,
+    text: &[u8],
+) -> usize
+    requires { ⌜ h .size ≤ 60 ⌝ }
+    ensures { λ r. ⌜ Leftmost (machine-of h (now (sets .entry)) (now (before .entry)) fold) (now (text .entry)) r ⌝ }
+{
+    let n = text.len();
+    let size = h.size;
+    let mut best = end_place(h, n);
+    let mut next: u64 = 0;
+    let mut i = n;
+    while 0 < i {
+        let stop = last_of(h, i == n);
+        i -= 1;
+        let x = lower_form(fold, text[i]);
+        let y = upper_form(fold, text[i]);
+        let f = step(sets, before, size, next | stop, x, y);
+        next = f.next;
+        if begins(h, i == 0, false, f.live) {
+            best = i;
+        }
+    }
+    best
+}

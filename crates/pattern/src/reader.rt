@@ -1,0 +1,231 @@
+// The reader: each function answers where what is left begins, and 0 where the pattern is refused.
+ghost use mathlib.Core.Path.{_≡_};
+ghost use mathlib.Core.Bool.{true, false, not, _&&_, _||_};
+ghost use Prim.Native.Nat.{_+_, _<_};
+ghost use lib.Dec.{eqb};
+ghost use lib.ListN.{length, getD, drop};
+ghost use Rattle.octets.specs.Lists.{text, pick, some-of, peek};
+ghost use Rattle.pattern.specs.Pattern.{list};
+ghost use Rattle.pattern.specs.Places.{map-got, items-of, ItemAt, PieceAt};
+ghost use Rattle.pattern.specs.Reading.{range, item, bracket, escaped, atom};
+ghost use Rattle.pattern.specs.Drawn.{drawn};
+use crate::draw::any;
+use crate::draw::closed;
+use crate::draw::lone;
+use crate::draw::widen;
+
+// What stands in a list: from lo to hi.
+pub struct Item {
+    pub end: usize,
+    pub lo: u8,
+    pub hi: u8,
+}
+
+// An atom: the bytes that it meets, where sets are asked for.
+pub struct Piece {
+    pub end: usize,
+    pub set: [u64; 4],
+}
+
+// The byte at i, or 256 past the end.
+pub(crate) fn peek_at(s: &[u8], i: usize) -> u16
+    ensures { λ r. ⌜ r ≡ peek (drop i (now (s .entry))) ⌝ }
+{
+    if i < s.len() {
+        return s[i] as u16;
+    }
+    256
+}
+
+// "`[.` `[=` `[:` inside a list"
+fn opens_class(b: u8, next: u16) -> bool
+    ensures { λ r. ⌜ r ≡ (eqb b 91 && some-of (eqb next) (text ".=:")) ⌝ }
+{
+    (b == 91) & ((next == 46) | (next == 61) | (next == 58))
+}
+
+fn no_item() -> Item
+    ensures { λ r. ⌜ r ≡ record { end = 0; lo = 0; hi = 0 } ⌝ }
+{
+    Item {
+        end: 0,
+        lo: 0,
+        hi: 0,
+    }
+}
+
+fn no_piece() -> Piece
+    ensures { λ r. ⌜ r .end ≡ 0 ⌝ }
+{
+    let none = [0u64; 4];
+    Piece { end: 0, set: none }
+}
+
+// A byte that may begin an item: "`-` when first or last", "a first `-` may begin a range"; `[.` `[=` `[:` may not.
+fn may_begin(first: bool, b: u8, next: u16) -> bool
+    ensures { λ r. ⌜ r ≡ ((not (eqb b 45) || first || eqb next 93) && not (eqb b 91 && some-of (eqb next) (text ".=:"))) ⌝ }
+{
+    ((b != 45) | first | (next == 93)) & !opens_class(b, next)
+}
+
+// "a range that falls" is refused; its end is no `[` of a class.
+fn range_at(s: &[u8], i: usize) -> Item
+    requires { ⌜ i + 2 < length (now s) ⌝ }
+    ensures { λ r. ⌜ ItemAt (range (getD (now (s .entry)) i 0) (drop (i + 1) (now (s .entry)))) (now (s .entry)) i r ⌝ }
+{
+    let lo = s[i];
+    let hi = s[i + 2];
+    let next = peek_at(s, i + 3);
+    if hi < lo {
+        return no_item();
+    }
+    if opens_class(hi, next) {
+        return no_item();
+    }
+    Item { end: i + 3, lo, hi }
+}
+
+// "any `-` may end one; ranges are read from the left": a `-` is an operator unless it stands straight before `]`.
+fn item_at(s: &[u8], i: usize, first: bool) -> Item
+    requires { ⌜ i < length (now s) ⌝ }
+    ensures { λ r. ⌜ ItemAt (item first (getD (now (s .entry)) i 0) (drop (i + 1) (now (s .entry)))) (now (s .entry)) i r ⌝ }
+{
+    let b = s[i];
+    let next = peek_at(s, i + 1);
+    if !may_begin(first, b, next) {
+        return no_item();
+    }
+    if next != 45 {
+        return Item {
+            end: i + 1,
+            lo: b,
+            hi: b,
+        };
+    }
+    let end = peek_at(s, i + 2);
+    if (end == 93) | (end == 256) {
+        return Item {
+            end: i + 1,
+            lo: b,
+            hi: b,
+        };
+    }
+    range_at(s, i)
+}
+
+// The items of a list up to its closing `]`. "`]` is ordinary when first"; "an unclosed list" is refused.
+fn items_at(s: &[u8], from: usize, build: bool) -> Piece
+    ensures { λ r. ⌜ PieceAt (map-got (λ l. drawn build (list false l)) (items-of true (drop from (now (s .entry))))) (now (s .entry)) from r ⌝ }
+{
+    let mut set = [0u64; 4];
+    let mut i = from;
+    let mut first = true;
+    while i < s.len() {
+        if (s[i] == 93) & !first {
+            return Piece { end: i + 1, set };
+        }
+        let item = item_at(s, i, first);
+        let end = item.end;
+        if end == 0 {
+            return no_piece();
+        }
+        let wider = widen(build, set, item.lo, item.hi);
+        set = wider;
+        i = end;
+        first = false;
+    }
+    no_piece()
+}
+
+// A bracket list from behind its `[` and `^`.
+fn bracket_of(s: &[u8], from: usize, negated: bool, build: bool) -> Piece
+    ensures { λ r. ⌜ PieceAt (map-got (λ l. drawn build (list negated l)) (items-of true (drop from (now (s .entry))))) (now (s .entry)) from r ⌝ }
+{
+    let p = items_at(s, from, build);
+    let end = p.end;
+    if end == 0 {
+        return no_piece();
+    }
+    let ranges = p.set;
+    let set = closed(build, negated, ranges);
+    Piece { end, set }
+}
+
+// "`^` first"
+fn bracket_at(s: &[u8], i: usize, build: bool) -> Piece
+    ensures { λ r. ⌜ PieceAt (map-got (drawn build) (bracket (drop i (now (s .entry))))) (now (s .entry)) i r ⌝ }
+{
+    if peek_at(s, i) == 94 {
+        return bracket_of(s, i + 1, true, build);
+    }
+    bracket_of(s, i, false, build)
+}
+
+// "`\\` before one of `. [ \\ * ^ $`"
+fn is_special(c: u16) -> bool
+    ensures { λ r. ⌜ r ≡ some-of (eqb c) (text ".[\\*^$") ⌝ }
+{
+    (c == 46) | (c == 91) | (c == 92) | (c == 42) | (c == 94) | (c == 36)
+}
+
+fn escaped_at(s: &[u8], i: usize, build: bool) -> Piece
+    ensures { λ r. ⌜ PieceAt (map-got (drawn build) (escaped (drop i (now (s .entry))))) (now (s .entry)) i r ⌝ }
+{
+    let c = peek_at(s, i);
+    if !is_special(c) {
+        return no_piece();
+    }
+    let set = lone(build, s[i]);
+    Piece { end: i + 1, set }
+}
+
+// The atom that begins at i. "`*` first, or right after the leading `^`, is ordinary"; any other that begins an atom is refused.
+pub(crate) fn atom_at(s: &[u8], i: usize, first: bool, build: bool) -> Piece
+    requires { ⌜ i < length (now s) ⌝ }
+    ensures { λ r. ⌜ PieceAt (map-got (drawn build) (atom first (getD (now (s .entry)) i 0) (drop (i + 1) (now (s .entry))))) (now (s .entry)) i r ⌝ }
+{
+    let b = s[i];
+    if b == 46 {
+        let set = any(build);
+        return Piece { end: i + 1, set };
+    }
+    if b == 91 {
+        return bracket_at(s, i + 1, build);
+    }
+    if b == 92 {
+        return escaped_at(s, i + 1, build);
+    }
+    if (b == 42) & !first {
+        return no_piece();
+    }
+    let set = lone(build, b);
+    Piece { end: i + 1, set }
+}
+
+// Behind an atom that ends at `end`, and its `*`.
+pub(crate) fn behind(s: &[u8], end: usize) -> usize
+    ensures { λ r. ⌜ r ≡ pick (eqb (peek (drop end (now (s .entry)))) 42) (end + 1) end ⌝ }
+{
+    if peek_at(s, end) == 42 {
+        return end + 1;
+    }
+    end
+}
+
+// "`^` as anchor only first"
+pub(crate) fn start_at(s: &[u8]) -> usize
+    ensures { λ r. ⌜ r ≡ pick (eqb (peek (now (s .entry))) 94) 1 0 ⌝ }
+{
+    if peek_at(s, 0) == 94 {
+        return 1;
+    }
+    0
+}
+
+// "`$` only last"
+pub(crate) fn is_anchor(s: &[u8], i: usize) -> bool
+    requires { ⌜ i < length (now s) ⌝ }
+    ensures { λ r. ⌜ r ≡ (eqb (getD (now (s .entry)) i 0) 36 && eqb (i + 1) (length (now (s .entry)))) ⌝ }
+{
+    (s[i] == 36) & (i + 1 == s.len())
+}

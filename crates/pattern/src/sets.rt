@@ -1,0 +1,53 @@
+// Sets of bytes: four words of 64 bits.
+ghost use mathlib.Core.Path.{_≡_};
+ghost use mathlib.Core.Bool.{Bool, not, _&&_, _||_};
+ghost use Prim.Native.Nat.{ℕ, _≤_};
+ghost use lib.Dec.{eqb};
+ghost use Rattle.octets.specs.Bytes.{within};
+ghost use Rattle.pattern.specs.Sets.{in-set, words};
+
+// All bits of a word.
+const ALL: u64 = 18446744073709551615;
+
+// Whether the byte b is in the set.
+pub(crate) fn has(set: [u64; 4], b: u8) -> bool
+    ensures { λ r. ⌜ r ≡ in-set set b ⌝ }
+{
+    let w = (b / 64) as usize;
+    let k = b % 64;
+    (set[w] >> k) & 1 == 1
+}
+
+// The set with one byte more.
+pub(crate) fn add_byte(set: [u64; 4], c: u8) -> [u64; 4]
+    ensures { λ r. ⌜ ((f : ℕ → Bool) → set ≡ words f → r ≡ words (λ b. f b || eqb b c)) ⌝ }
+{
+    let mut s = set;
+    let w = (c / 64) as usize;
+    let k = c % 64;
+    s[w] = s[w] | 1 << k;
+    s
+}
+
+// The set with the bytes from lo to hi.
+pub(crate) fn add_range(set: [u64; 4], lo: u8, hi: u8) -> [u64; 4]
+    requires { ⌜ lo ≤ hi ⌝ }
+    ensures { λ r. ⌜ ((f : ℕ → Bool) → set ≡ words f → r ≡ words (λ b. f b || within lo hi b)) ⌝ }
+{
+    let mut s = set;
+    let end = hi as usize + 1;
+    let mut k = lo as usize;
+    while k < end {
+        let t = add_byte(s, k as u8);
+        s = t;
+        k += 1;
+    }
+    s
+}
+
+// The bytes that are not in the set. "`.` and a `^` list never meet byte 0."
+pub(crate) fn others(set: [u64; 4]) -> [u64; 4]
+    ensures { λ r. ⌜ ((f : ℕ → Bool) → set ≡ words f → r ≡ words (λ b. not (eqb b 0) && not (f b))) ⌝ }
+{
+    [(set[0] | 1) ^ ALL, set[1] ^ ALL, set[2] ^ ALL, set[3] ^ ALL]
+}
