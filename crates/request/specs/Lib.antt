@@ -1,5 +1,7 @@
 pub mod Body
 pub mod Cutting
 pub mod Examples
+pub mod Places
 pub mod Request
+pub mod Searching
 pub mod Values
