@@ -1,2 +1,4 @@
+pub mod Cuts
 pub mod Head
 pub mod Search
+pub mod StartParts

@@ -1,9 +1,15 @@
 -- Where the parts of a request stand in its bytes. Every place is a sum of lengths of what the definitions cut the bytes into.
+use mathlib.Core.Bool.{Bool, not, _&&_}
 use mathlib.Core.Option.{Option, none, some}
-use Prim.Native.Nat.{ℕ}
+use Prim.Native.Nat.{ℕ, _+_, _-_}
 use mathlib.Core.List.{List}
+use Rattle.octets.specs.Lists.{text, every, empty}
+use Rattle.octets.specs.Bytes.{same-any-case, token, uri-byte}
 use Rattle.request.specs.Cutting.{Cut, first-cut}
-use Rattle.request.specs.Request.{empty-line}
+use lib.ListN.{length, take, drop}
+use Rattle.request.specs.Request.{empty-line, Start}
+use Rattle.request.specs.declared.StartLine.{StartLine}
+use Rattle.request.specs.declared.StartLine.the-variants.{Bad, Good}
 
 -- what stands before a cut, or everything where there is none
 abbrev pub before-cut : List ℕ → Option Cut → List ℕ
@@ -14,3 +20,16 @@ before-cut s (some c) = c .before
 unfoldable pub head-of : List ℕ → List ℕ
 unfolding first-cut
 head-of s = before-cut s (first-cut empty-line s)
+
+-- the bytes from a to e
+abbrev pub part : List ℕ → ℕ → ℕ → List ℕ
+part s a e = take (e - a) (drop a s)
+
+-- what `three` asks of the three parts of a start line
+abbrev pub parts-right : List ℕ → List ℕ → List ℕ → Bool
+parts-right m u v = token m && not (empty u) && every uri-byte u && same-any-case v (text "SIP/2.0")
+
+-- where the method and the URI of a start line end
+abbrev pub start-places : Option Start → StartLine
+start-places none = Bad
+start-places (some t) = Good (length (t .method)) (length (t .method) + 1 + length (t .uri))

@@ -1,10 +1,26 @@
--- The one search that every loop over bytes is: how far it is to the first place where a test holds of the rest.
-use mathlib.Core.Bool.{Bool}
+-- The searches that the loops over bytes are: how far it is to the first place where a test holds.
+use mathlib.Core.Bool.{Bool, not, _&&_}
 use Prim.Native.Nat.{ℕ, suc}
 use mathlib.Core.List.{List, [], _∷_}
+use lib.ListN.{getD}
 use Rattle.octets.specs.Lists.{pick}
+use Rattle.octets.specs.Bytes.{token-byte, uri-byte, white}
+use Rattle.request.specs.Cutting.{begins}
 
--- how many bytes stand before that place; all of them where there is none
+-- how many bytes stand before the first place where the test holds of the rest; all of them where there is none
 unfoldable pub first : (List ℕ → Bool) → List ℕ → ℕ
 first p [] = 0
 first p (b ∷ s) = pick (p (b ∷ s)) 0 (suc (first p s))
+
+-- how many stand before the first byte that stops in the mode it is met in, as `cut-by` has it
+unfoldable pub span : {M : Type 0} → (M → ℕ → Bool) → (M → ℕ → M) → M → List ℕ → ℕ
+span stops next m [] = 0
+span stops next m (b ∷ s) = pick (stops m b) 0 (suc (span stops next (next m b) s))
+
+-- a field's line ends here: CR LF that no SP or HTAB follows
+abbrev pub line-break : List ℕ → Bool
+line-break s = begins (13 ∷ 10 ∷ []) s && not (white (getD s 2 0))
+
+-- a byte of a URI, or else of a token
+abbrev pub word-byte : Bool → ℕ → Bool
+word-byte uri b = pick uri (uri-byte b) (token-byte b)

@@ -1,14 +1,14 @@
 // The SIP request: readable or not, its start line, fields, values and body lines. The definitions stand in specs/.
 ghost use mathlib.Core.Path.{_≡_};
-ghost use mathlib.Core.Bool.{_&&_};
+ghost use mathlib.Core.Bool.{not, _&&_};
 ghost use mathlib.Core.List.{_∷_, []};
-ghost use Prim.Native.Nat.{_+_, _≤_};
-ghost use lib.ListN.{length, drop};
-ghost use Rattle.octets.specs.Lists.{every};
+ghost use Prim.Native.Nat.{_+_, _≤_, _<_};
+ghost use lib.ListN.{length, take, drop};
+ghost use Rattle.octets.specs.Lists.{every, empty};
 ghost use Rattle.request.specs.Cutting.{begins};
-ghost use Rattle.request.specs.Places.{head-of};
-ghost use Rattle.request.specs.Request.{empty-line, head-byte, paired};
-ghost use Rattle.request.specs.Searching.{first};
+ghost use Rattle.request.specs.Places.{head-of, part, parts-right, start-places};
+ghost use Rattle.request.specs.Request.{empty-line, head-byte, paired, start-line};
+ghost use Rattle.request.specs.Searching.{first, word-byte};
 
 // Whether CR LF CR LF stands at i.
 fn empty_line_at(s: &[u8], i: usize) -> bool
@@ -88,4 +88,70 @@ fn head_bytes_right(h: &[u8]) -> bool
         before = b;
     }
     before != 13
+}
+
+// A byte of a URI, or else of a token.
+fn word_byte_is(uri: bool, b: u8) -> bool
+    ensures { λ r. ⌜ r ≡ word-byte uri b ⌝ }
+{
+    let k = octets::class(b);
+    if uri {
+        return (k == 1) | (k == 3);
+    }
+    k == 1
+}
+
+// Whether the bytes are one or more, all of a URI, or else all of a token.
+fn is_word(uri: bool, w: &[u8]) -> bool
+    ensures { λ r. ⌜ r ≡ (not (empty (now (w .entry))) && every (word-byte uri) (now (w .entry))) ⌝ }
+{
+    if w.len() == 0 {
+        return false;
+    }
+    let mut i: usize = 0;
+    while i < w.len() {
+        let b = w[i];
+        i += 1;
+        if !word_byte_is(uri, b) {
+            return false;
+        }
+    }
+    true
+}
+
+// Whether a method, a URI and the version stand before, between and after the SPs at m and u.
+fn start_parts_right(l: &[u8], m: usize, u: usize) -> bool
+    requires { ⌜ (m < u) × (u < length (now l)) ⌝ }
+    ensures { λ r. ⌜ r ≡ parts-right (take m (now (l .entry))) (part (now (l .entry)) (m + 1) u) (drop (u + 1) (now (l .entry))) ⌝ }
+{
+    if !is_word(false, &l[0..m]) {
+        return false;
+    }
+    if !is_word(true, &l[m + 1..u]) {
+        return false;
+    }
+    octets::same_letters(&l[u + 1..], b"SIP/2.0")
+}
+
+// A start line: where its method ends and where its URI ends.
+enum StartLine {
+    Bad,
+    Good { method: usize, uri: usize },
+}
+
+fn start_line(l: &[u8]) -> StartLine
+    ensures { λ r. ⌜ r ≡ start-places (start-line (now (l .entry))) ⌝ }
+{
+    let m = place_of(l, 0, 32);
+    if l.len() <= m {
+        return StartLine::Bad;
+    }
+    let u = place_of(l, m + 1, 32);
+    if l.len() <= u {
+        return StartLine::Bad;
+    }
+    if start_parts_right(l, m, u) {
+        return StartLine::Good { method: m, uri: u };
+    }
+    StartLine::Bad
 }
