@@ -7,10 +7,11 @@ use native.Mathlib.Omega.{arith}
 use native.Mathlib.Decide.{decLe}
 use mathlib.Core.List.{List, [], _∷_}
 use lib.ListN.{length, getD, drop, drop-of-length-le}
-use lib.Dec.{leb, eqb}
+use lib.Dec.{T, leb, eqb}
 use lib.Seq.{drop-cons}
-use borrow.Author.Tests.{eq-eqb, ne-eqb, le-leb, lt-leb, not-true, not-false}
+use borrow.Author.Tests.{eq-eqb, ne-eqb, le-leb, lt-leb, not-true, not-false, eqb-true}
 use Rattle.octets.specs.Lists.{every, pick}
+use Rattle.octets.proofs.Tests.{both, left, right, is-true, is-false, test-cases}
 use Rattle.request.specs.Request.{agree, head-byte, paired}
 
 -- ---- its bytes
@@ -71,3 +72,41 @@ module _ (h : List ℕ) (before i : ℕ) (k : Judging h before i) (inside : i < 
 pub judging-end : (h : List ℕ) (before i : ℕ) → Judging h before i → length h ≤ i → not (eqb before 13) ≡ right-from 0 h
 unfolding paired
 judging-end h before i k past = sym (k .rest ∙ rw (drop-of-length-le h past))
+
+-- ---- its lines
+
+-- a head in which CR and LF stand only as pairs
+pub data Pairs : List ℕ → Type 0 where
+  pairs-end : Pairs []
+  pairs-byte : {b : ℕ} {s : List ℕ} → eqb b 13 ≡ false → eqb b 10 ≡ false → Pairs s → Pairs (b ∷ s)
+  pairs-fold : {s : List ℕ} → Pairs s → Pairs (13 ∷ 10 ∷ s)
+
+-- only a CR before matters
+paired-plain : (b : ℕ) (s : List ℕ) → eqb b 13 ≡ false → paired b s ≡ paired 0 s
+unfolding paired
+paired-plain b [] e = rw e
+paired-plain b (c ∷ s) e = rw e
+
+-- what follows a CR
+after-cr : (c : ℕ) (s : List ℕ) → (T (paired 0 s) → Pairs s) → T (paired 13 (c ∷ s)) → Pairs (13 ∷ c ∷ s)
+unfolding paired
+after-cr c s on t =
+    let c-is : 10 ≡ c = sym (eqb-true c 10 (is-true (eqb c 10) (left (eqb c 10) (paired c s) t))) in
+    subst (λ (x : ℕ). Pairs (13 ∷ x ∷ s)) c-is
+    (pairs-fold (on (subst T (ap (λ (x : ℕ). paired x s) (sym c-is) ∙ paired-plain 10 s refl) (right (eqb c 10) (paired c s) t))))
+
+pub pairs : (s : List ℕ) → T (paired 0 s) → Pairs s
+unfolding paired
+pairs [] t = pairs-end
+pairs (b ∷ []) t = pairs-byte (not-true (eqb b 13) (is-true (not (eqb b 13)) (right (not (eqb b 10)) (not (eqb b 13)) t))) (is-false (eqb b 10) (left (not (eqb b 10)) (not (eqb b 13)) t)) pairs-end
+pairs (b ∷ c ∷ s) t =
+    test-cases (eqb b 13)
+    (λ e. let b-is : 13 ≡ b = sym (eqb-true b 13 e) in
+      subst (λ (x : ℕ). Pairs (x ∷ c ∷ s)) b-is (after-cr c s (pairs s) (subst (λ (x : ℕ). T (paired x (c ∷ s))) (sym b-is) (right (not (eqb b 10)) (paired b (c ∷ s)) t))))
+    (λ e. pairs-byte e (is-false (eqb b 10) (left (not (eqb b 10)) (paired b (c ∷ s)) t)) (pairs (c ∷ s) (subst T (paired-plain b (c ∷ s) e) (right (not (eqb b 10)) (paired b (c ∷ s)) t))))
+
+pub pairs-paired : {s : List ℕ} → Pairs s → T (paired 0 s)
+unfolding paired
+pairs-paired pairs-end = tt
+pairs-paired (pairs-byte {b} {s} e f p) = both (not (eqb b 10)) (paired b s) (subst (λ (x : Bool). T (not x)) (sym f) tt) (subst T (sym (paired-plain b s e)) (pairs-paired p))
+pairs-paired (pairs-fold {s} p) = subst T (sym (paired-plain 10 s refl)) (pairs-paired p)

@@ -1,4 +1,5 @@
 pub mod Cuts
 pub mod Head
+pub mod Lines
 pub mod Search
 pub mod StartParts

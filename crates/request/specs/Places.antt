@@ -1,13 +1,14 @@
 -- Where the parts of a request stand in its bytes. Every place is a sum of lengths of what the definitions cut the bytes into.
-use mathlib.Core.Bool.{Bool, not, _&&_}
+use mathlib.Core.Bool.{Bool, true, false, not, _&&_}
 use mathlib.Core.Option.{Option, none, some}
 use Prim.Native.Nat.{ℕ, _+_, _-_}
-use mathlib.Core.List.{List}
-use Rattle.octets.specs.Lists.{text, every, empty}
+use mathlib.Core.List.{List, []}
+use Rattle.octets.specs.Lists.{text, pick, every, empty}
 use Rattle.octets.specs.Bytes.{same-any-case, token, uri-byte}
-use Rattle.request.specs.Cutting.{Cut, first-cut}
+use Rattle.request.specs.Cutting.{Cut, first-cut, cut-by}
 use lib.ListN.{length, take, drop}
-use Rattle.request.specs.Request.{empty-line, Start}
+use lib.Dec.{leb}
+use Rattle.request.specs.Request.{empty-line, head-lines, Start, whole-fields}
 use Rattle.request.specs.declared.StartLine.{StartLine}
 use Rattle.request.specs.declared.StartLine.the-variants.{Bad, Good}
 
@@ -33,3 +34,13 @@ parts-right m u v = token m && not (empty u) && every uri-byte u && same-any-cas
 abbrev pub start-places : Option Start → StartLine
 start-places none = Bad
 start-places (some t) = Good (length (t .method)) (length (t .method) + 1 + length (t .uri))
+
+-- something was read
+abbrev pub is-some {ℓ} : {A : Type ℓ} → Option A → Bool
+is-some none = false
+is-some (some a) = true
+
+-- the fields with their folds, from a place in the head on; none past its end
+unfoldable pub lines-from : List ℕ → ℕ → List (List ℕ)
+unfolding cut-by whole-fields
+lines-from h p = pick (leb p (length h)) (whole-fields (head-lines (drop p h))) []
