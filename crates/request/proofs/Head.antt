@@ -102,7 +102,7 @@ pairs (b ∷ []) t = pairs-byte (not-true (eqb b 13) (is-true (not (eqb b 13)) (
 pairs (b ∷ c ∷ s) t =
     test-cases (eqb b 13)
     (λ e. let b-is : 13 ≡ b = sym (eqb-true b 13 e) in
-      subst (λ (x : ℕ). Pairs (x ∷ c ∷ s)) b-is (after-cr c s (pairs s) (subst (λ (x : ℕ). T (paired x (c ∷ s))) (sym b-is) (right (not (eqb b 10)) (paired b (c ∷ s)) t))))
+    subst (λ (x : ℕ). Pairs (x ∷ c ∷ s)) b-is (after-cr c s (pairs s) (subst (λ (x : ℕ). T (paired x (c ∷ s))) (sym b-is) (right (not (eqb b 10)) (paired b (c ∷ s)) t))))
     (λ e. pairs-byte e (is-false (eqb b 10) (left (not (eqb b 10)) (paired b (c ∷ s)) t)) (pairs (c ∷ s) (subst T (paired-plain b (c ∷ s) e) (right (not (eqb b 10)) (paired b (c ∷ s)) t))))
 
 pub pairs-paired : {s : List ℕ} → Pairs s → T (paired 0 s)

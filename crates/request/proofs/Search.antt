@@ -1,5 +1,5 @@
 -- Laws of `first`: what a loop that looks at one place after the other keeps, over any test, and what a cut at a mark is.
-use mathlib.Core.Bool.{Bool, true, false, _&&_}
+use mathlib.Core.Bool.{Bool, true, false, not, _&&_}
 use mathlib.Core.Option.{Option, none, some}
 use mathlib.Core.Path.{_≡_, refl, sym, ap, _∙_}
 use Prim.Native.Nat.{ℕ, zero, suc, _+_, _≤_, _<_, zero-le, suc-le-suc}
@@ -11,13 +11,14 @@ use mathlib.Core.List.{List, [], _∷_}
 use lib.ListN.{length, getD, take, drop, drop-of-length-le, length-drop}
 use lib.Dec.{eqb}
 use borrow.Author.Tests.{eq-eqb, ne-eqb}
-use lib.Seq.{drop-cons, length-take-le}
+use lib.Seq.{drop-cons, getD-drop, length-take-le}
 use Rattle.octets.specs.Lists.{pick}
+use Rattle.octets.specs.Bytes.{white}
 use Rattle.octets.specs.Option.{_>>=_}
 use Rattle.request.specs.Cutting.{Cut, begins, first-cut}
 use Rattle.request.specs.Places.{before-cut, head-of}
 use Rattle.request.specs.Request.{empty-line}
-use Rattle.request.specs.Searching.{first}
+use Rattle.request.specs.Searching.{first, line-break}
 
 module _ (p : List ℕ → Bool) where
   pub first-no : (b : ℕ) (s : List ℕ) → p (b ∷ s) ≡ false → first p (b ∷ s) ≡ suc (first p s)
@@ -109,6 +110,28 @@ module _ (s : List ℕ) (i a : ℕ) (ea : a ≡ getD s i 0) where
 
         pub empty-yes : d ≡ 10 → true ≡ begins empty-line (drop i s)
         empty-yes h = sym (empty-line-is s i ∙ rw (at-a, at-b, at-c, ← ed′, eq-eqb 10 d (sym h)))
+
+-- the end of a field's line
+module _ (h : List ℕ) (i : ℕ) where
+  line-break-is : line-break (drop i h) ≡ ((eqb 13 (getD h i 0) && (eqb 10 (getD h (i + 1) 0) && true)) && not (white (getD h (i + 2) 0)))
+  line-break-is = rw (begins-at 13 (10 ∷ []) h i refl, begins-at 10 [] h (i + 1) refl, getD-drop)
+
+  pub break-no-cr : (getD h i 0 ≡ 13 → ⊥) → false ≡ line-break (drop i h)
+  break-no-cr n = sym (line-break-is ∙ rw (ne-eqb 13 (getD h i 0) (λ e. n (sym e))))
+
+  module _ (cr : getD h i 0 ≡ 13) (b : ℕ) (eb : b ≡ getD h (i + 1) 0) where
+    pub break-no-lf : (b ≡ 10 → ⊥) → false ≡ line-break (drop i h)
+    break-no-lf n = sym (line-break-is ∙ rw (cr, ← eb, ne-eqb 10 b (λ e. n (sym e))))
+
+    module _ (lf : b ≡ 10) (x : ℕ) (ex : x ≡ getD h (i + 2) 0) (r : Bool) (er : r ≡ white x) where
+      pair-here : line-break (drop i h) ≡ not r
+      pair-here = line-break-is ∙ rw (cr, ← eb, lf, ← ex, ← er)
+
+      pub break-fold : r ≡ true → false ≡ line-break (drop i h)
+      break-fold y = sym (pair-here ∙ ap not y)
+
+      pub break-yes : r ≡ false → true ≡ line-break (drop i h)
+      break-yes n = sym (pair-here ∙ ap not n)
 
 -- a search for one byte
 module _ (s : List ℕ) (b t i : ℕ) (k : Came (begins (b ∷ [])) s t i) (inside : i < length s) where

@@ -8,7 +8,7 @@ use Rattle.octets.specs.Bytes.{same-any-case, token, uri-byte}
 use Rattle.request.specs.Cutting.{Cut, first-cut, cut-by}
 use lib.ListN.{length, take, drop}
 use lib.Dec.{leb}
-use Rattle.request.specs.Request.{empty-line, head-lines, Start, whole-fields}
+use Rattle.request.specs.Request.{empty-line, head-lines, Start, whole-fields, field}
 use Rattle.request.specs.declared.StartLine.{StartLine}
 use Rattle.request.specs.declared.StartLine.the-variants.{Bad, Good}
 
@@ -39,6 +39,10 @@ start-places (some t) = Good (length (t .method)) (length (t .method) + 1 + leng
 abbrev pub is-some {ℓ} : {A : Type ℓ} → Option A → Bool
 is-some none = false
 is-some (some a) = true
+
+-- a line with its folds that is a field
+abbrev pub is-field : List ℕ → Bool
+is-field l = is-some (field l)
 
 -- the fields with their folds, from a place in the head on; none past its end
 unfoldable pub lines-from : List ℕ → ℕ → List (List ℕ)

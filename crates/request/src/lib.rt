@@ -3,12 +3,15 @@ ghost use mathlib.Core.Path.{_≡_};
 ghost use mathlib.Core.Bool.{not, _&&_};
 ghost use mathlib.Core.List.{_∷_, []};
 ghost use Prim.Native.Nat.{_+_, _≤_, _<_};
+ghost use lib.Dec.{T};
 ghost use lib.ListN.{length, take, drop};
 ghost use Rattle.octets.specs.Lists.{every, empty};
+ghost use Rattle.octets.specs.Bytes.{white};
 ghost use Rattle.request.specs.Cutting.{begins};
-ghost use Rattle.request.specs.Places.{head-of, part, parts-right, start-places};
+ghost use Rattle.request.specs.Places.{head-of, part, parts-right, start-places, is-field, lines-from};
 ghost use Rattle.request.specs.Request.{empty-line, head-byte, paired, start-line};
-ghost use Rattle.request.specs.Searching.{first, word-byte};
+ghost use Rattle.request.specs.Searching.{first, line-break, word-byte};
+ghost use Rattle.request.specs.Values.{trim-right};
 
 // Whether CR LF CR LF stands at i.
 fn empty_line_at(s: &[u8], i: usize) -> bool
@@ -154,4 +157,87 @@ fn start_line(l: &[u8]) -> StartLine
         return StartLine::Good { method: m, uri: u };
     }
     StartLine::Bad
+}
+
+// SP or HTAB.
+fn is_white(b: u8) -> bool
+    ensures { λ r. ⌜ r ≡ white b ⌝ }
+{
+    octets::class(b) == 2
+}
+
+// How many bytes are left of t without SP and HTAB at its right end.
+fn trimmed_end(t: &[u8]) -> usize
+    ensures { λ r. ⌜ r ≡ length (trim-right (now (t .entry))) ⌝ }
+{
+    let mut e = t.len();
+    while 0 < e {
+        let b = t[e - 1];
+        if !is_white(b) {
+            return e;
+        }
+        e -= 1;
+    }
+    e
+}
+
+// Whether a line with its folds is a field: name token, any SP or HTAB, colon, value.
+fn is_field(l: &[u8]) -> bool
+    ensures { λ r. ⌜ r ≡ is-field (now (l .entry)) ⌝ }
+{
+    let k = place_of(l, 0, 58);
+    if l.len() <= k {
+        return false;
+    }
+    let n = trimmed_end(&l[0..k]);
+    is_word(false, &l[0..n])
+}
+
+// Whether a field's line ends at i: CR LF with no SP or HTAB after it.
+fn line_break_at(h: &[u8], i: usize) -> bool
+    requires { ⌜ i < length (now h) ⌝ }
+    ensures { λ r. ⌜ r ≡ line-break (drop i (now (h .entry))) ⌝ }
+{
+    if h[i] != 13 {
+        return false;
+    }
+    if octets::byte_at(h, i + 1) != 10 {
+        return false;
+    }
+    if is_white(octets::byte_at(h, i + 2)) {
+        return false;
+    }
+    true
+}
+
+// The end of the line, with the lines that continue it, that starts at a place.
+fn line_end(h: &[u8], from: usize) -> usize
+    requires { ⌜ from ≤ length (now h) ⌝ }
+    ensures { λ r. ⌜ r ≡ from + first line-break (drop from (now (h .entry))) ⌝ }
+{
+    let mut i = from;
+    while i < h.len() {
+        if line_break_at(h, i) {
+            return i;
+        }
+        i += 1;
+    }
+    i
+}
+
+// Whether every line from a place on is a field.
+fn are_fields(h: &[u8], from: usize) -> bool
+    requires { ⌜ (from ≤ length (now h) + 2) × (length (now h) ≤ 65535) × T (paired 0 (drop from (now h))) ⌝ }
+    ensures { λ r. ⌜ r ≡ every is-field (lines-from (now (h .entry)) from) ⌝ }
+{
+    let mut p = from;
+    while p <= h.len() {
+        let e = line_end(h, p);
+        let right = is_field(&h[p..e]);
+        p = e + 2;
+        if !right {
+            return false;
+        }
+    }
+    true
 }
