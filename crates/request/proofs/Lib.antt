@@ -1,6 +1,7 @@
 pub mod Cuts
 pub mod Fields
 pub mod Head
+pub mod Judging
 pub mod Lines
 pub mod Search
 pub mod StartParts

@@ -24,7 +24,7 @@ whole h = whole-fields (head-lines h)
 
 -- ---- one byte or one fold more
 
-lines-byte : (b : ℕ) (s : List ℕ) → eqb b 13 ≡ false → eqb b 10 ≡ false → head-lines (b ∷ s) ≡ push b (head-lines s)
+pub lines-byte : (b : ℕ) (s : List ℕ) → eqb b 13 ≡ false → eqb b 10 ≡ false → head-lines (b ∷ s) ≡ push b (head-lines s)
 unfolding cut-by
 lines-byte b s e f =
     let kept : List ℕ = only (λ (x : ℕ). not (eqb x 13)) s in
@@ -61,11 +61,11 @@ whole-push b (l ∷ ls) = pick-push b l (whole-fields ls) (continues ls)
 
 -- ---- the first line
 
-from-suc : (b : ℕ) (s : List ℕ) (p : ℕ) → lines-from (b ∷ s) (suc p) ≡ lines-from s p
+pub from-suc : (b : ℕ) (s : List ℕ) (p : ℕ) → lines-from (b ∷ s) (suc p) ≡ lines-from s p
 unfolding lines-from
 from-suc b s p = ap (λ (t : Bool). pick t (whole (drop p s)) []) (leb·suc-suc p (length s))
 
-from-start : (s : List ℕ) → lines-from s 0 ≡ whole s
+pub from-start : (s : List ℕ) → lines-from s 0 ≡ whole s
 unfolding lines-from
 from-start s = ap (λ (t : Bool). pick t (whole s) []) (le-leb 0 (length s) zero-le)
 

@@ -2,15 +2,17 @@
 use mathlib.Core.Bool.{Bool, true, false, not, _&&_}
 use mathlib.Core.Option.{Option, none, some}
 use Prim.Native.Nat.{ℕ, _+_, _-_}
-use mathlib.Core.List.{List, []}
+use mathlib.Core.List.{List, [], _∷_}
 use Rattle.octets.specs.Lists.{text, pick, every, empty}
 use Rattle.octets.specs.Bytes.{same-any-case, token, uri-byte}
 use Rattle.request.specs.Cutting.{Cut, first-cut, cut-by}
 use lib.ListN.{length, take, drop}
 use lib.Dec.{leb}
-use Rattle.request.specs.Request.{empty-line, head-lines, Start, whole-fields, field}
+use Rattle.request.specs.Request.{empty-line, head-lines, Start, whole-fields, field, Request}
 use Rattle.request.specs.declared.StartLine.{StartLine}
 use Rattle.request.specs.declared.StartLine.the-variants.{Bad, Good}
+use Rattle.request.specs.declared.Judged.{Judged}
+use Rattle.request.specs.declared.Judged.the-variants.{Unreadable, Readable}
 
 -- what stands before a cut, or everything where there is none
 abbrev pub before-cut : List ℕ → Option Cut → List ℕ
@@ -48,3 +50,17 @@ is-field l = is-some (field l)
 unfoldable pub lines-from : List ℕ → ℕ → List (List ℕ)
 unfolding cut-by whole-fields
 lines-from h p = pick (leb p (length h)) (whole-fields (head-lines (drop p h))) []
+
+-- the first line, and those after it
+abbrev pub first-line : List (List ℕ) → List ℕ
+first-line [] = []
+first-line (l ∷ ls) = l
+
+-- where the line of a head's first field starts: past the start line and its CR LF
+abbrev pub fields-start : List ℕ → ℕ
+fields-start h = length (first-line (head-lines h)) + 2
+
+-- where the parts of a request with this head end, and where its fields start
+abbrev pub judged : List ℕ → Option Request → Judged
+judged h none = Unreadable
+judged h (some q) = Readable (length h) (length (q .method)) (length (q .method) + 1 + length (q .uri)) (fields-start h)

@@ -8,8 +8,8 @@ ghost use lib.ListN.{length, take, drop};
 ghost use Rattle.octets.specs.Lists.{every, empty};
 ghost use Rattle.octets.specs.Bytes.{white};
 ghost use Rattle.request.specs.Cutting.{begins};
-ghost use Rattle.request.specs.Places.{head-of, part, parts-right, start-places, is-field, lines-from};
-ghost use Rattle.request.specs.Request.{empty-line, head-byte, paired, start-line};
+ghost use Rattle.request.specs.Places.{head-of, part, parts-right, start-places, is-field, lines-from, judged};
+ghost use Rattle.request.specs.Request.{empty-line, head-byte, paired, head-lines, start-line, head, read-request};
 ghost use Rattle.request.specs.Searching.{first, line-break, word-byte};
 ghost use Rattle.request.specs.Values.{trim-right};
 
@@ -240,4 +240,57 @@ fn are_fields(h: &[u8], from: usize) -> bool
         }
     }
     true
+}
+
+// A request: where its head, its method and its URI end, and where the line of its first field starts.
+enum Judged {
+    Unreadable,
+    Readable {
+        head: usize,
+        method: usize,
+        uri: usize,
+        fields: usize,
+    },
+}
+
+// The lines of a head whose bytes are right.
+fn judge_lines(h: &[u8]) -> Judged
+    requires { ⌜ (length (now h) ≤ 65535) × T (paired 0 (now h)) ⌝ }
+    ensures { λ r. ⌜ r ≡ judged (now (h .entry)) (head (head-lines (now (h .entry))) []) ⌝ }
+{
+    let n = place_of(h, 0, 13);
+    // "none may follow the start line directly" (document 01): no line that continues it
+    if is_white(octets::byte_at(h, n + 2)) {
+        return Judged::Unreadable;
+    }
+    match start_line(&h[0..n]) {
+        StartLine::Bad => Judged::Unreadable,
+        StartLine::Good { method, uri } => {
+            if are_fields(h, n + 2) {
+                return Judged::Readable {
+                    head: h.len(),
+                    method: method,
+                    uri: uri,
+                    fields: n + 2,
+                };
+            }
+            Judged::Unreadable
+        }
+    }
+}
+
+fn judge(s: &[u8]) -> Judged
+    ensures { λ r. ⌜ r ≡ judged (head-of (now (s .entry))) (read-request (now (s .entry))) ⌝ }
+{
+    if 65535 < s.len() {
+        return Judged::Unreadable;
+    }
+    let e = head_end(s);
+    if s.len() <= e {
+        return Judged::Unreadable;
+    }
+    if !head_bytes_right(&s[0..e]) {
+        return Judged::Unreadable;
+    }
+    judge_lines(&s[0..e])
 }
