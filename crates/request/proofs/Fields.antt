@@ -34,7 +34,7 @@ named c =
     holds (token (trim-right (c .before))) >>= λ _.
     some (record { name = name-as-matched (trim-right (c .before)); values = values-of (name-as-matched (trim-right (c .before))) (reduced (c .after)) })
 
-some-holds : (t : Bool) (f : Field) → is-some (holds t >>= λ _. some f) ≡ t
+pub some-holds : (t : Bool) (f : Field) → is-some (holds t >>= λ _. some f) ≡ t
 some-holds true f = refl
 some-holds false f = refl
 
@@ -83,6 +83,11 @@ module _ (h : List ℕ) (p e : ℕ) (inside : p ≤ length h) (e-is : e ≡ p + 
 
   pub end-inside : e ≤ length h
   end-inside = omega (arith, first-le line-break (drop p h), length-drop p h)
+
+  pub colon-small : (k : ℕ) → k ≡ 0 + first (begins (58 ∷ [])) (drop 0 (part h p e)) → p + k ≤ length h
+  colon-small k k-is =
+      let long : length (part h p e) ≡ e - p = length-take-le (e - p) (drop p h) (omega (arith, end-inside, length-drop p h)) in
+      omega (arith, k-is, first-le (begins (58 ∷ [])) (part h p e), long, end-inside, end-order)
 
   module _ (from : ℕ) (k : Checking h from p) (r : Bool) (er : r ≡ is-field (part h p e)) where
     here : every is-field (lines-from h from) ≡ (r && every is-field (lines-from h (e + 2)))

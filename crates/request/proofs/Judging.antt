@@ -21,7 +21,7 @@ use Rattle.request.specs.Searching.{first}
 use Rattle.request.specs.declared.StartLine.{StartLine}
 use Rattle.request.specs.declared.StartLine.the-variants.{Bad, Good}
 use Rattle.request.specs.declared.Judged.{Judged}
-use Rattle.request.specs.declared.Judged.the-variants.{Unreadable, Readable}
+use Rattle.request.specs.declared.Judged.the-variants.{Refused, Accepted}
 use Rattle.request.proofs.Head.{Pairs, pairs-end, pairs-byte, pairs-fold, pairs, pairs-paired}
 use Rattle.request.proofs.Lines.{lines-byte, continues-at, from-suc, from-start}
 use Rattle.request.proofs.Search.{first-le, first-yes, first-no, cut-found, cut-missing, head-end}
@@ -91,28 +91,28 @@ built body o folds fs = do
   some (record { method = t .method; uri = t .uri; fields = l; body = body })
 
 module _ (h body : List ℕ) where
-  built-folds : (o : Option Start) (fs : Option (List Field)) → judged h (built body o true fs) ≡ Unreadable
+  built-folds : (o : Option Start) (fs : Option (List Field)) → judged h (built body o true fs) ≡ Refused
   built-folds none fs = refl
   built-folds (some t) fs = refl
 
-  built-bad : (o : Option Start) (folds : Bool) (fs : Option (List Field)) → start-places o ≡ Bad → judged h (built body o folds fs) ≡ Unreadable
+  built-bad : (o : Option Start) (folds : Bool) (fs : Option (List Field)) → start-places o ≡ Bad → judged h (built body o folds fs) ≡ Refused
   built-bad none folds fs e = refl
   built-bad (some t) folds fs e = let z : _≡_ {A = ℕ} 0 1 = cc in absurd (omega arith)
 
-  built-wrong : (o : Option Start) (folds : Bool) (fs : Option (List Field)) → is-some fs ≡ false → judged h (built body o folds fs) ≡ Unreadable
+  built-wrong : (o : Option Start) (folds : Bool) (fs : Option (List Field)) → is-some fs ≡ false → judged h (built body o folds fs) ≡ Refused
   built-wrong none folds fs e = refl
   built-wrong (some t) true fs e = refl
   built-wrong (some t) false none e = refl
   built-wrong (some t) false (some l) e = let z : _≡_ {A = ℕ} 0 1 = cc in absurd (omega arith)
 
   built-right : (o : Option Start) (fs : Option (List Field)) (m u : ℕ) → start-places o ≡ Good m u → is-some fs ≡ true
-      → judged h (built body o false fs) ≡ Readable (length h) m u (fields-start h)
+      → judged h (built body o false fs) ≡ Accepted (length h) m u (fields-start h)
   built-right none fs m u e f = let z : _≡_ {A = ℕ} 0 1 = cc in absurd (omega arith)
   built-right (some t) none m u e f = let z : _≡_ {A = ℕ} 0 1 = cc in absurd (omega arith)
   built-right (some t) (some l) m u e f =
       let em : length (t .method) ≡ m = cc in
       let eu : length (t .method) + 1 + length (t .uri) ≡ u = cc in
-      (λ i. Readable (length h) (em i) (eu i) (fields-start h))
+      (λ i. Accepted (length h) (em i) (eu i) (fields-start h))
 
 module _ (h : List ℕ) (n : ℕ) (pre : (length h ≤ 65535) × T (paired 0 h)) (en : n ≡ 0 + first (begins (13 ∷ [])) (drop 0 h)) where
   here : Starts h n
@@ -139,24 +139,24 @@ module _ (h : List ℕ) (n : ℕ) (pre : (length h ≤ 65535) × T (paired 0 h))
     by-fold : (t : Bool) → w ≡ t → head (head-lines h) [] ≡ built [] (start-line line) t fields
     by-fold t e = head-is w (ew ∙ ap white eb) ∙ ap (λ (x : Bool). built [] (start-line line) x fields) e
 
-    pub lines-fold : w ≡ true → Unreadable ≡ judged h (head (head-lines h) [])
+    pub lines-fold : w ≡ true → Refused ≡ judged h (head (head-lines h) [])
     lines-fold e = sym (ap (judged h) (by-fold true e) ∙ built-folds h [] (start-line line) fields)
 
     module _ (y : w ≡ false) (t : StartLine) (et : t ≡ start-places (start-line line)) where
-      pub lines-bad : t ≡ Bad → Unreadable ≡ judged h (head (head-lines h) [])
+      pub lines-bad : t ≡ Bad → Refused ≡ judged h (head (head-lines h) [])
       lines-bad e = sym (ap (judged h) (by-fold false y) ∙ built-bad h [] (start-line line) false fields (sym et ∙ e))
 
       module _ (m u : ℕ) (e : t ≡ Good m u) (r : Bool) (er : r ≡ every is-field (lines-from h (n + 2))) where
         some-is : is-some fields ≡ r
         some-is = all-fields-some (lines-from h (n + 2)) ∙ sym er
 
-        pub lines-wrong : r ≡ false → Unreadable ≡ judged h (head (head-lines h) [])
+        pub lines-wrong : r ≡ false → Refused ≡ judged h (head (head-lines h) [])
         lines-wrong q = sym (ap (judged h) (by-fold false y) ∙ built-wrong h [] (start-line line) false fields (some-is ∙ q))
 
-        pub lines-right : r ≡ true → Readable (length h) m u (n + 2) ≡ judged h (head (head-lines h) [])
+        pub lines-right : r ≡ true → Accepted (length h) m u (n + 2) ≡ judged h (head (head-lines h) [])
         lines-right q =
             let start : fields-start h ≡ n + 2 = ap (λ (ls : List (List ℕ)). length (first-line ls) + 2) (here .lines) ∙ ap (λ (k : ℕ). k + 2) (length-take-le n h n-inside) in
-            sym (ap (judged h) (by-fold false y) ∙ built-right h [] (start-line line) fields m u (sym et ∙ e) (some-is ∙ q) ∙ ap (Readable (length h) m u) start)
+            sym (ap (judged h) (by-fold false y) ∙ built-right h [] (start-line line) fields m u (sym et ∙ e) (some-is ∙ q) ∙ ap (Accepted (length h) m u) start)
 
 -- ---- the head
 
@@ -171,7 +171,7 @@ head-free : (h b c : List ℕ) (ls : List (List ℕ)) → judged h (head ls b) �
 head-free h b c [] = refl
 head-free h b c (l ∷ ls) = body-free h b c (start-line l) (continues ls) (all-fields (whole-fields ls))
 
-pub judge-long : (s : List ℕ) → 65535 < length s → Unreadable ≡ judged (head-of s) (read-request s)
+pub judge-long : (s : List ℕ) → 65535 < length s → Refused ≡ judged (head-of s) (read-request s)
 unfolding read-request
 judge-long s h = rw (lt-leb (length s) 65535 h)
 
@@ -189,7 +189,7 @@ module _ (s : List ℕ) (short : length s ≤ 65535) (e : ℕ) (e-is : e ≡ len
   place : first (begins empty-line) s ≡ e
   place = sym (e-is ∙ head-end s)
 
-  pub judge-endless : length s ≤ e → Unreadable ≡ judged (head-of s) (read-request s)
+  pub judge-endless : length s ≤ e → Refused ≡ judged (head-of s) (read-request s)
   judge-endless h = sym (ap (judged (head-of s)) (read-is ∙ ap reading (cut-missing empty-line s (omega (arith, place)))))
 
   module _ (more : e < length s) where
@@ -220,7 +220,7 @@ module _ (s : List ℕ) (short : length s ≤ 65535) (e : ℕ) (e-is : e ≡ len
       by-test : (t : Bool) → r ≡ t → read-request s ≡ (holds t >>= λ _. head (head-lines (take e s)) (drop (e + 4) s))
       by-test t q = by-bytes ∙ ap (λ (x : Bool). holds x >>= λ _. head (head-lines (take e s)) (drop (e + 4) s)) q
 
-      pub judge-bytes : not r ≡ true → Unreadable ≡ judged (head-of s) (read-request s)
+      pub judge-bytes : not r ≡ true → Refused ≡ judged (head-of s) (read-request s)
       judge-bytes n = sym (ap (judged (head-of s)) (by-test false (not-true r n)))
 
       pub front-paired : not r ≡ false → T (paired 0 front)

@@ -1,8 +1,10 @@
 pub mod Cuts
 pub mod Fields
+pub mod Filling
 pub mod Head
 pub mod Judging
 pub mod Lines
 pub mod Search
 pub mod StartParts
 pub mod Trims
+pub mod Writing

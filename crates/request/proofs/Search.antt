@@ -190,13 +190,17 @@ module _ (mark : List ℕ) where
   cut-missing [] l = refl
   cut-missing (b ∷ s) l = missing-by b s (cut-missing s) (begins mark (b ∷ s)) refl l
 
+  -- how much stands before it
+  pub before-length : (s : List ℕ) → length (before-cut s (first-cut mark s)) ≡ first (begins mark) s
+  before-length s =
+      let k = first (begins mark) s in
+      let k-le : k ≤ length s = first-le (begins mark) s in
+      elim (decLe (length s) k) [
+        | yes h ↦ ap (λ (o : Option Cut). length (before-cut s o)) (cut-missing s h) ∙ omega arith
+        | no h ↦ ap (λ (o : Option Cut). length (before-cut s o)) (cut-found s (omega (arith, h))) ∙ length-take-le k s k-le
+      ]
+
 -- the end of the head
 pub head-end : (s : List ℕ) → length (head-of s) ≡ first (begins empty-line) s
 unfolding head-of
-head-end s =
-    let k = first (begins empty-line) s in
-    let k-le : k ≤ length s = first-le (begins empty-line) s in
-    elim (decLe (length s) k) [
-      | yes h ↦ ap (λ (o : Option Cut). length (before-cut s o)) (cut-missing empty-line s h) ∙ omega arith
-      | no h ↦ ap (λ (o : Option Cut). length (before-cut s o)) (cut-found empty-line s (omega (arith, h))) ∙ length-take-le k s k-le
-    ]
+head-end s = before-length empty-line s

@@ -1,18 +1,19 @@
 -- Where the parts of a request stand in its bytes. Every place is a sum of lengths of what the definitions cut the bytes into.
 use mathlib.Core.Bool.{Bool, true, false, not, _&&_}
 use mathlib.Core.Option.{Option, none, some}
-use Prim.Native.Nat.{ℕ, _+_, _-_}
-use mathlib.Core.List.{List, [], _∷_}
+use mathlib.Core.Path.{_≡_}
+use Prim.Native.Nat.{ℕ, _+_, _-_, _≤_}
+use mathlib.Core.List.{List, [], _∷_, _++_}
 use Rattle.octets.specs.Lists.{text, pick, every, empty}
 use Rattle.octets.specs.Bytes.{same-any-case, token, uri-byte}
 use Rattle.request.specs.Cutting.{Cut, first-cut, cut-by}
 use lib.ListN.{length, take, drop}
-use lib.Dec.{leb}
-use Rattle.request.specs.Request.{empty-line, head-lines, Start, whole-fields, field, Request}
+use lib.Dec.{T, leb}
+use Rattle.request.specs.Request.{empty-line, paired, head-lines, Start, whole-fields, field, Request}
 use Rattle.request.specs.declared.StartLine.{StartLine}
 use Rattle.request.specs.declared.StartLine.the-variants.{Bad, Good}
 use Rattle.request.specs.declared.Judged.{Judged}
-use Rattle.request.specs.declared.Judged.the-variants.{Unreadable, Readable}
+use Rattle.request.specs.declared.Judged.the-variants.{Refused, Accepted}
 
 -- what stands before a cut, or everything where there is none
 abbrev pub before-cut : List ℕ → Option Cut → List ℕ
@@ -62,5 +63,38 @@ fields-start h = length (first-line (head-lines h)) + 2
 
 -- where the parts of a request with this head end, and where its fields start
 abbrev pub judged : List ℕ → Option Request → Judged
-judged h none = Unreadable
-judged h (some q) = Readable (length h) (length (q .method)) (length (q .method) + 1 + length (q .uri)) (fields-start h)
+judged h none = Refused
+judged h (some q) = Accepted (length h) (length (q .method)) (length (q .method) + 1 + length (q .uri)) (fields-start h)
+
+-- ---- fields
+
+-- where each line starts, from a place on: each takes its bytes and a CR LF
+unfoldable pub line-starts : ℕ → List (List ℕ) → List ℕ
+line-starts at [] = []
+line-starts at (l ∷ ls) = at ∷ line-starts (at + length l + 2) ls
+
+-- how far the colon stands in a line
+unfoldable pub colon-in : List ℕ → ℕ
+unfolding first-cut
+colon-in l = length (before-cut l (first-cut (text ":") l))
+
+-- where the colon of each line stands
+unfoldable pub line-colons : ℕ → List (List ℕ) → List ℕ
+unfolding colon-in
+line-colons at [] = []
+line-colons at (l ∷ ls) = (at + colon-in l) ∷ line-colons (at + length l + 2) ls
+
+-- the lines from a place in the head on are fields, and there is room for a number of each: one takes at least four bytes of 65,535
+pub record Fillable (h : List ℕ) (from room room′ : ℕ) : Type 0 where
+  pub inside : from ≤ length h + 2
+  pub short : length h ≤ 65535
+  pub pairs : T (paired 0 (drop from h))
+  pub fields : T (every is-field (lines-from h from))
+  pub starts-room : 16384 ≤ room
+  pub colons-room : 16384 ≤ room′
+
+-- their places are written, first to last, and the rest of the lent places kept
+pub record Filled (h : List ℕ) (from : ℕ) (starts colons starts′ colons′ : List ℕ) (n : ℕ) : Type 0 where
+  pub count : n ≡ length (lines-from h from)
+  pub starts-are : starts′ ≡ line-starts from (lines-from h from) ++ drop n starts
+  pub colons-are : colons′ ≡ line-colons from (lines-from h from) ++ drop n colons

@@ -8,7 +8,7 @@ ghost use lib.ListN.{length, take, drop};
 ghost use Rattle.octets.specs.Lists.{every, empty};
 ghost use Rattle.octets.specs.Bytes.{white};
 ghost use Rattle.request.specs.Cutting.{begins};
-ghost use Rattle.request.specs.Places.{head-of, part, parts-right, start-places, is-field, lines-from, judged};
+ghost use Rattle.request.specs.Places.{head-of, part, parts-right, start-places, is-field, lines-from, judged, Fillable, Filled};
 ghost use Rattle.request.specs.Request.{empty-line, head-byte, paired, head-lines, start-line, head, read-request};
 ghost use Rattle.request.specs.Searching.{first, line-break, word-byte};
 ghost use Rattle.request.specs.Values.{trim-right};
@@ -244,8 +244,8 @@ fn are_fields(h: &[u8], from: usize) -> bool
 
 // A request: where its head, its method and its URI end, and where the line of its first field starts.
 enum Judged {
-    Unreadable,
-    Readable {
+    Refused,
+    Accepted {
         head: usize,
         method: usize,
         uri: usize,
@@ -261,20 +261,20 @@ fn judge_lines(h: &[u8]) -> Judged
     let n = place_of(h, 0, 13);
     // "none may follow the start line directly" (document 01): no line that continues it
     if is_white(octets::byte_at(h, n + 2)) {
-        return Judged::Unreadable;
+        return Judged::Refused;
     }
     match start_line(&h[0..n]) {
-        StartLine::Bad => Judged::Unreadable,
+        StartLine::Bad => Judged::Refused,
         StartLine::Good { method, uri } => {
             if are_fields(h, n + 2) {
-                return Judged::Readable {
+                return Judged::Accepted {
                     head: h.len(),
                     method: method,
                     uri: uri,
                     fields: n + 2,
                 };
             }
-            Judged::Unreadable
+            Judged::Refused
         }
     }
 }
@@ -283,14 +283,33 @@ fn judge(s: &[u8]) -> Judged
     ensures { λ r. ⌜ r ≡ judged (head-of (now (s .entry))) (read-request (now (s .entry))) ⌝ }
 {
     if 65535 < s.len() {
-        return Judged::Unreadable;
+        return Judged::Refused;
     }
     let e = head_end(s);
     if s.len() <= e {
-        return Judged::Unreadable;
+        return Judged::Refused;
     }
     if !head_bytes_right(&s[0..e]) {
-        return Judged::Unreadable;
+        return Judged::Refused;
     }
     judge_lines(&s[0..e])
+}
+
+// Writes where each line from a place on starts, and where its colon stands, to the front of the lent places. All of them are fields. It
+// answers how many.
+fn fill(h: &[u8], from: usize, starts: &mut [u16], colons: &mut [u16]) -> usize
+    requires { ⌜ Fillable (now h) from (length (now starts)) (length (now colons)) ⌝ }
+    ensures { λ r. ⌜ Filled (now (h .entry)) from (now (starts .entry)) (now (colons .entry)) (now (starts .exit)) (now (colons .exit)) r ⌝ }
+{
+    let mut p = from;
+    let mut n: usize = 0;
+    while p <= h.len() {
+        let e = line_end(h, p);
+        let k = place_of(&h[p..e], 0, 58);
+        starts[n] = p as u16;
+        colons[n] = (p + k) as u16;
+        n += 1;
+        p = e + 2;
+    }
+    n
 }
