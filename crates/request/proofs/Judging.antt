@@ -28,7 +28,7 @@ use Rattle.request.proofs.Search.{first-le, first-yes, first-no, cut-fo
 
 -- ---- the start line and what follows it
 
-abbrev cr : List ℕ → ℕ
+abbrev pub cr : List ℕ → ℕ
 cr s = first (begins (13 ∷ [])) s
 
 -- the start line ends at the first CR
@@ -64,7 +64,7 @@ starts-end : Starts [] 0
 unfolding cut-by whole-fields lines-from
 starts-end = record { later = []; lines = refl; folds = refl; fields = refl; rest = pairs-end }
 
-starts : {h : List ℕ} → Pairs h → Starts h (cr h)
+pub starts : {h : List ℕ} → Pairs h → Starts h (cr h)
 unfolding first
 starts pairs-end = starts-end
 starts (pairs-byte {b} {s} e f p) =
@@ -83,7 +83,7 @@ unfolding all-fields
 all-fields-some [] = refl
 all-fields-some (l ∷ ls) = all-step (field l) (all-fields ls) ∙ ap (λ (t : Bool). is-field l && t) (all-fields-some ls)
 
-abbrev built : List ℕ → Option Start → Bool → Option (List Field) → Option Request
+abbrev pub built : List ℕ → Option Start → Bool → Option (List Field) → Option Request
 built body o folds fs = do
   t ← o
   _ ← holds (not folds)
@@ -124,10 +124,11 @@ module _ (h : List ℕ) (n : ℕ) (pre : (length h ≤ 65535) × T (paired 0 h))
   pub rest-paired : T (paired 0 (drop (n + 2) h))
   rest-paired = pairs-paired (here .rest)
 
-  head-is : (folds : Bool) → folds ≡ white (getD h (n + 2) 0) → head (head-lines h) [] ≡ built [] (start-line (take (n - 0) (drop 0 h))) folds (all-fields (lines-from h (n + 2)))
-  head-is folds ef =
-      ap (λ (ls : List (List ℕ)). head ls []) (here .lines)
-      ∙ (λ i. built [] (start-line (take (sym (sub-zero n) i) h)) ((here .folds ∙ sym ef) i) (all-fields (here .fields i)))
+  pub head-built : (body : List ℕ) (folds : Bool) → folds ≡ white (getD h (n + 2) 0)
+      → head (head-lines h) body ≡ built body (start-line (take (n - 0) (drop 0 h))) folds (all-fields (lines-from h (n + 2)))
+  head-built body folds ef =
+      ap (λ (ls : List (List ℕ)). head ls body) (here .lines)
+      ∙ (λ i. built body (start-line (take (sym (sub-zero n) i) h)) ((here .folds ∙ sym ef) i) (all-fields (here .fields i)))
 
   abbrev line : List ℕ
   line = take (n - 0) (drop 0 h)
@@ -137,7 +138,7 @@ module _ (h : List ℕ) (n : ℕ) (pre : (length h ≤ 65535) × T (paired 0 h))
 
   module _ (b : ℕ) (eb : b ≡ getD h (n + 2) 0) (w : Bool) (ew : w ≡ white b) where
     by-fold : (t : Bool) → w ≡ t → head (head-lines h) [] ≡ built [] (start-line line) t fields
-    by-fold t e = head-is w (ew ∙ ap white eb) ∙ ap (λ (x : Bool). built [] (start-line line) x fields) e
+    by-fold t e = head-built [] w (ew ∙ ap white eb) ∙ ap (λ (x : Bool). built [] (start-line line) x fields) e
 
     pub lines-fold : w ≡ true → Refused ≡ judged h (head (head-lines h) [])
     lines-fold e = sym (ap (judged h) (by-fold true e) ∙ built-folds h [] (start-line line) fields)
@@ -217,11 +218,11 @@ module _ (s : List ℕ) (short : length s ≤ 65535) (e : ℕ) (e-is : e ≡ len
           read-is ∙ ap reading cut
           ∙ ap (λ (t : Bool). holds t >>= λ _. head (head-lines (take e s)) (drop (e + 4) s)) (ap (λ (l : List ℕ). every head-byte l && paired 0 l) (sym front-is) ∙ sym er)
 
-      by-test : (t : Bool) → r ≡ t → read-request s ≡ (holds t >>= λ _. head (head-lines (take e s)) (drop (e + 4) s))
-      by-test t q = by-bytes ∙ ap (λ (x : Bool). holds x >>= λ _. head (head-lines (take e s)) (drop (e + 4) s)) q
+      pub read-by-test : (t : Bool) → r ≡ t → read-request s ≡ (holds t >>= λ _. head (head-lines (take e s)) (drop (e + 4) s))
+      read-by-test t q = by-bytes ∙ ap (λ (x : Bool). holds x >>= λ _. head (head-lines (take e s)) (drop (e + 4) s)) q
 
       pub judge-bytes : not r ≡ true → Refused ≡ judged (head-of s) (read-request s)
-      judge-bytes n = sym (ap (judged (head-of s)) (by-test false (not-true r n)))
+      judge-bytes n = sym (ap (judged (head-of s)) (read-by-test false (not-true r n)))
 
       pub front-paired : not r ≡ false → T (paired 0 front)
       front-paired n = right (every head-byte front) (paired 0 front) (T-of (sym er ∙ not-false r n))
@@ -231,4 +232,4 @@ module _ (s : List ℕ) (short : length s ≤ 65535) (e : ℕ) (e-is : e ≡ len
           ej ∙ ap (λ (l : List ℕ). judged l (head (head-lines l) [])) front-is
           ∙ head-free (take e s) [] (drop (e + 4) s) (head-lines (take e s))
           ∙ ap (λ (l : List ℕ). judged l (head (head-lines (take e s)) (drop (e + 4) s))) (sym head-is-front)
-          ∙ sym (ap (judged (head-of s)) (by-test true (not-false r n)))
+          ∙ sym (ap (judged (head-of s)) (read-by-test true (not-false r n)))

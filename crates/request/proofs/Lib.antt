@@ -1,9 +1,11 @@
+pub mod Accepted
 pub mod Cuts
 pub mod Fields
 pub mod Filling
 pub mod Head
 pub mod Judging
 pub mod Lines
+pub mod Parts
 pub mod Search
 pub mod StartParts
 pub mod Trims

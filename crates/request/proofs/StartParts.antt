@@ -118,7 +118,7 @@ version-not v h = go (same-any-case v (text "SIP/2.0")) refl
     go true e = absurd (omega (arith, version-sp v e))
     go false e = refl
 
-abbrev started : List ℕ → List ℕ → Bool → Option Start
+abbrev pub started : List ℕ → List ℕ → Bool → Option Start
 started m u t = holds t >>= λ _. some (record { method = m; uri = u })
 
 -- what stands after the second SP is the version, or there is a third
@@ -168,19 +168,19 @@ module _ (l : List ℕ) (m : ℕ) (em : m ≡ 0 + first (begins (32 ∷ [])) (dr
           ∙ ap (λ (j : ℕ). take j (drop (m + 1) l) ∷ cut-at 32 (drop (k + 1) (drop (m + 1) l))) e
           ∙ ap (λ (s : List ℕ). part l (m + 1) u ∷ cut-at 32 s) (drop-drop (k + 1) (m + 1) l ∙ ap (λ (j : ℕ). drop j l) f)
 
-      whole : start-line l ≡ started (take m l) (part l (m + 1) u) r
-      whole =
+      pub start-whole : start-line l ≡ started (take m l) (part l (m + 1) u) r
+      start-whole =
           ap three (on-m ∙ ap (λ (ls : List (List ℕ)). take m l ∷ ls) on-u)
           ∙ three-parts (take m l) (part l (m + 1) u) (drop (u + 1) l)
           ∙ ap (started (take m l) (part l (m + 1) u)) (sym er)
 
       pub start-wrong : r ≡ false → Bad ≡ start-places (start-line l)
-      start-wrong f = sym (ap start-places (whole ∙ ap (started (take m l) (part l (m + 1) u)) f))
+      start-wrong f = sym (ap start-places (start-whole ∙ ap (started (take m l) (part l (m + 1) u)) f))
 
       pub start-right : r ≡ true → Good m u ≡ start-places (start-line l)
       start-right f =
           let long-m : length (take m l) ≡ m = length-take-le m l (omega arith) in
           let long-u : length (part l (m + 1) u) ≡ u - (m + 1) = length-take-le (u - (m + 1)) (drop (m + 1) l) (omega (arith, in-after)) in
           let u-is : m + 1 + (u - (m + 1)) ≡ u = omega (arith, eu) in
-          sym (ap start-places (whole ∙ ap (started (take m l) (part l (m + 1) u)) f)
+          sym (ap start-places (start-whole ∙ ap (started (take m l) (part l (m + 1) u)) f)
           ∙ (λ i. Good (long-m i) (long-m i + 1 + long-u i)) ∙ ap (Good m) u-is)
