@@ -15,8 +15,8 @@ use Rattle.octets.specs.Bytes.{white}
 use Rattle.octets.specs.Option.{_>>=_, holds}
 use Rattle.octets.proofs.Tests.{test-cases, T-of, right, is-true}
 use Rattle.request.specs.Cutting.{begins}
-use Rattle.request.specs.Places.{head-of, part, parts-right, start-places, lines-from, first-line, fields-start, judged}
-use Rattle.request.specs.Request.{Field, Request, Start, head-byte, paired, head-lines, continues, start-line, all-fields, head, empty-line, read-request}
+use Rattle.request.specs.Places.{head-of, part, parts-right, start-places, lines-from, first-line, later-lines, field-lines, fields-start, judged}
+use Rattle.request.specs.Request.{Field, Request, Start, head-byte, paired, head-lines, whole-fields, start-line, all-fields, head, empty-line, read-request}
 use Rattle.request.specs.Searching.{first}
 use Rattle.request.specs.declared.StartLine.the-variants.{Bad, Good}
 use Rattle.request.specs.declared.Judged.{Judged}
@@ -74,7 +74,7 @@ start-some l t e =
                 let at-r = start-whole l m em more u refl further r refl in
                 test-cases r
                 (λ y. starts-at l m u t (omega arith) further
-                  (the-start t (record { method = take m l; uri = part l (m + 1) u }) (sym (at-r ∙ ap (started (take m l) (part l (m + 1) u)) y) ∙ e)))
+                (the-start t (record { method = take m l; uri = part l (m + 1) u }) (sym (at-r ∙ ap (started (take m l) (part l (m + 1) u)) y) ∙ e)))
                 (λ n. absurd (not-bad (start-line l) t e (start-wrong l m em more u refl further r refl n)))
           ]
     ]
@@ -127,6 +127,7 @@ pub record Accepts (s : List ℕ) (e m u f : ℕ) : Type 0 where
   pub start-is : f ≡ fields-start (take e s)
   pub start-inside : f ≤ e + 2
   pub paired-on : T (paired 0 (drop f (take e s)))
+  pub lines-are : field-lines (take e s) ≡ lines-from (take e s) f
   pub fields-are : all-fields (lines-from (take e s) f) ≡ some (request .fields)
 
 -- a mark that was found lies inside
@@ -200,6 +201,10 @@ module _ (s : List ℕ) (e₀ : ℕ) (short : length s ≤ 65535) (inside : e₀
   long-line : length line ≡ n
   long-line = ap length line-is ∙ length-take-le n s (omega (arith, n-le, inside))
 
+  fields-found : field-lines h ≡ lines-from h f
+  unfolding field-lines
+  fields-found = ap (λ (ls : List (List ℕ)). whole-fields (later-lines ls)) (found-start .lines) ∙ found-start .fields ∙ ap (lines-from h) (sym f-found)
+
   the-request : Request
   the-request = record { method = whole .start .method; uri = whole .start .uri; fields = whole .list; body = body }
 
@@ -219,6 +224,7 @@ module _ (s : List ℕ) (e₀ : ℕ) (short : length s ≤ 65535) (inside : e₀
     start-is = sym (whole .f-is) ∙ ap (λ (k : ℕ). fields-start (take k s)) e-found;
     start-inside = omega (arith, f-found, n-le, e-found);
     paired-on = pairs-paired (subst (λ (l : List ℕ). Pairs l) (λ i. drop (sym f-found i) (take (e-found i) s)) (found-start .rest));
+    lines-are = subst (λ (k : ℕ). field-lines (take k s) ≡ lines-from (take k s) f) e-found fields-found;
     fields-are = (λ i. all-fields (lines-from (take (sym e-found i) s) (f-found i))) ∙ whole .list-is;
   }
 
@@ -241,7 +247,7 @@ accepts s e m u f q =
                 let mark : begins empty-line (drop e₀ s) ≡ true = subst (λ (k : ℕ). begins empty-line (drop k s) ≡ true) place (first-holds (begins empty-line) s (omega (arith, place))) in
                 test-cases r
                 (λ y. accepted s e₀ short (omega (arith, begins-long empty-line (drop e₀ s) mark, length-drop e₀ s, more)) (head-is-front s short e₀ refl more)
-                  (subst (λ (l : List ℕ). T (paired 0 l)) front-is (right (every head-byte front) (paired 0 front) (T-of y))) (read-by-test s short e₀ refl more r refl true y) e m u f q)
+                (subst (λ (l : List ℕ). T (paired 0 l)) front-is (right (every head-byte front) (paired 0 front) (T-of y))) (read-by-test s short e₀ refl more r refl true y) e m u f q)
                 (λ n. absurd (not-so (judge-bytes s short e₀ refl more r refl (ap not n))))
           ]
     ]

@@ -1,4 +1,5 @@
 pub mod Accepted
+pub mod Answers
 pub mod Cuts
 pub mod Fields
 pub mod Filling

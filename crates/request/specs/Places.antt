@@ -9,10 +9,12 @@ use Rattle.octets.specs.Bytes.{same-any-case, token, uri-byte}
 use Rattle.request.specs.Cutting.{Cut, first-cut, cut-by}
 use lib.ListN.{length, take, drop}
 use lib.Dec.{T, leb}
-use Rattle.request.specs.Request.{empty-line, paired, head-lines, Start, whole-fields, field, Request}
+use Rattle.request.specs.Request.{empty-line, paired, head-lines, Start, whole-fields, field, Request, read-request}
 use Rattle.request.specs.declared.StartLine.{StartLine}
 use Rattle.request.specs.declared.StartLine.the-variants.{Bad, Good}
 use Rattle.request.specs.declared.Judged.{Judged}
+use Rattle.request.specs.declared.Reading.{Reading}
+use Rattle.request.specs.declared.Reading.the-variants.{Unreadable, Readable}
 use Rattle.request.specs.declared.Judged.the-variants.{Refused, Accepted}
 
 -- what stands before a cut, or everything where there is none
@@ -57,6 +59,15 @@ abbrev pub first-line : List (List ℕ) → List ℕ
 first-line [] = []
 first-line (l ∷ ls) = l
 
+abbrev pub later-lines : List (List ℕ) → List (List ℕ)
+later-lines [] = []
+later-lines (l ∷ ls) = ls
+
+-- a head's fields with their folds
+unfoldable pub field-lines : List ℕ → List (List ℕ)
+unfolding cut-by whole-fields
+field-lines h = whole-fields (later-lines (head-lines h))
+
 -- where the line of a head's first field starts: past the start line and its CR LF
 abbrev pub fields-start : List ℕ → ℕ
 fields-start h = length (first-line (head-lines h)) + 2
@@ -98,3 +109,28 @@ pub record Filled (h : List ℕ) (from : ℕ) (starts colons starts′ colons′
   pub count : n ≡ length (lines-from h from)
   pub starts-are : starts′ ≡ line-starts from (lines-from h from) ++ drop n starts
   pub colons-are : colons′ ≡ line-colons from (lines-from h from) ++ drop n colons
+
+-- ---- the answer of reading
+
+-- where method, URI and head end, and how many fields there are
+abbrev pub reading : List ℕ → Option Request → Reading
+reading h none = Unreadable
+reading h (some q) = Readable (length (q .method)) (length (q .method) + 1 + length (q .uri)) (length h) (length (q .fields))
+
+-- where the lines of the fields start, and where their colons stand; nothing is written where the request is unreadable
+abbrev pub starts-of : List ℕ → Option Request → List ℕ
+starts-of h none = []
+starts-of h (some q) = line-starts (fields-start h) (field-lines h)
+
+abbrev pub colons-of : List ℕ → Option Request → List ℕ
+colons-of h none = []
+colons-of h (some q) = line-colons (fields-start h) (field-lines h)
+
+-- what stands in lent places once w is written to their front
+abbrev pub over : List ℕ → List ℕ → List ℕ
+over w d = w ++ drop (length w) d
+
+pub record Read (s starts colons starts′ colons′ : List ℕ) (r : Reading) : Type 0 where
+  pub answer : r ≡ reading (head-of s) (read-request s)
+  pub starts-are : starts′ ≡ over (starts-of (head-of s) (read-request s)) starts
+  pub colons-are : colons′ ≡ over (colons-of (head-of s) (read-request s)) colons

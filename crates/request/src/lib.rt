@@ -8,7 +8,7 @@ ghost use lib.ListN.{length, take, drop};
 ghost use Rattle.octets.specs.Lists.{every, empty};
 ghost use Rattle.octets.specs.Bytes.{white};
 ghost use Rattle.request.specs.Cutting.{begins};
-ghost use Rattle.request.specs.Places.{head-of, part, parts-right, start-places, is-field, lines-from, judged, Fillable, Filled};
+ghost use Rattle.request.specs.Places.{head-of, part, parts-right, start-places, is-field, lines-from, judged, Fillable, Filled, Read};
 ghost use Rattle.request.specs.Request.{empty-line, head-byte, paired, head-lines, start-line, head, read-request};
 ghost use Rattle.request.specs.Searching.{first, line-break, word-byte};
 ghost use Rattle.request.specs.Values.{trim-right};
@@ -312,4 +312,40 @@ fn fill(h: &[u8], from: usize, starts: &mut [u16], colons: &mut [u16]) -> usize
         p = e + 2;
     }
     n
+}
+
+// What is read: where the method, the URI and the head end, and how many fields there are. The body starts four bytes after the head's end.
+pub enum Reading {
+    Unreadable,
+    Readable {
+        method: usize,
+        uri: usize,
+        head: usize,
+        fields: usize,
+    },
+}
+
+// Reads a request. The places of each field's line and of its colon go to the front of the lent places; nothing is written where the request
+// is unreadable.
+pub fn read(s: &[u8], starts: &mut [u16], colons: &mut [u16]) -> Reading
+    requires { ⌜ (16384 ≤ length (now starts)) × (16384 ≤ length (now colons)) ⌝ }
+    ensures { λ r. ⌜ Read (now (s .entry)) (now (starts .entry)) (now (colons .entry)) (now (starts .exit)) (now (colons .exit)) r ⌝ }
+{
+    match judge(s) {
+        Judged::Refused => Reading::Unreadable,
+        Judged::Accepted {
+            head,
+            method,
+            uri,
+            fields,
+        } => {
+            let n = fill(&s[0..head], fields, starts, colons);
+            Reading::Readable {
+                method: method,
+                uri: uri,
+                head: head,
+                fields: n,
+            }
+        }
+    }
 }
