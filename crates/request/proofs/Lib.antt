@@ -6,6 +6,7 @@ pub mod Filling
 pub mod Head
 pub mod Judging
 pub mod Lines
+pub mod Norm
 pub mod Parts
 pub mod Search
 pub mod StartParts

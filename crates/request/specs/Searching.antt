@@ -1,9 +1,10 @@
 -- The searches that the loops over bytes are: how far it is to the first place where a test holds.
-use mathlib.Core.Bool.{Bool, not, _&&_}
+use mathlib.Core.Bool.{Bool, not, _&&_, _||_}
 use Prim.Native.Nat.{ℕ, suc}
 use mathlib.Core.List.{List, [], _∷_}
 use lib.ListN.{getD}
-use Rattle.octets.specs.Lists.{pick}
+use lib.Dec.{eqb}
+use Rattle.octets.specs.Lists.{pick, some-of}
 use Rattle.octets.specs.Bytes.{token-byte, uri-byte, white}
 use Rattle.request.specs.Cutting.{begins}
 
@@ -24,3 +25,7 @@ line-break s = begins (13 ∷ 10 ∷ []) s && not (white (getD s 2 0))
 -- a byte of a URI, or else of a token
 abbrev pub word-byte : Bool → ℕ → Bool
 word-byte uri b = pick uri (uri-byte b) (token-byte b)
+
+-- SP, HTAB, or the CR or LF of a fold: what `spaces` makes SP of
+abbrev pub space : ℕ → Bool
+space b = eqb b 32 || some-of (eqb b) (9 ∷ 10 ∷ 13 ∷ [])

@@ -8,10 +8,10 @@ ghost use lib.ListN.{length, take, drop};
 ghost use Rattle.octets.specs.Lists.{every, empty};
 ghost use Rattle.octets.specs.Bytes.{white};
 ghost use Rattle.request.specs.Cutting.{begins};
-ghost use Rattle.request.specs.Places.{head-of, part, parts-right, start-places, is-field, lines-from, judged, Fillable, Filled, Read};
+ghost use Rattle.request.specs.Places.{head-of, part, parts-right, start-places, is-field, lines-from, judged, Fillable, Filled, over, Read};
 ghost use Rattle.request.specs.Request.{empty-line, head-byte, paired, head-lines, start-line, head, read-request};
-ghost use Rattle.request.specs.Searching.{first, line-break, word-byte};
-ghost use Rattle.request.specs.Values.{trim-right};
+ghost use Rattle.request.specs.Searching.{first, line-break, word-byte, space};
+ghost use Rattle.request.specs.Values.{trim-right, reduced};
 
 // Whether CR LF CR LF stands at i.
 fn empty_line_at(s: &[u8], i: usize) -> bool
@@ -348,4 +348,43 @@ pub fn read(s: &[u8], starts: &mut [u16], colons: &mut [u16]) -> Reading
             }
         }
     }
+}
+
+// SP, HTAB, or the CR or LF of a fold.
+fn is_space(b: u8) -> bool
+    ensures { λ r. ⌜ r ≡ space b ⌝ }
+{
+    if 32 < b {
+        return false;
+    }
+    (b == 32) | (b == 9) | (b == 10) | (b == 13)
+}
+
+// Writes the value as document 01 reads it to the front of the lent place: no white space at the ends, one SP for each run inside. It answers
+// how many bytes it wrote.
+pub fn normalise(raw: &[u8], dst: &mut [u8]) -> usize
+    requires { ⌜ length (now raw) ≤ length (now dst) ⌝ }
+    ensures { λ r. ⌜ (r ≡ length (reduced (now (raw .entry)))) × (now (dst .exit) ≡ over (reduced (now (raw .entry))) (now (dst .entry))) ⌝ }
+{
+    let mut gap = false;
+    let mut n: usize = 0;
+    let mut i: usize = 0;
+    while i < raw.len() {
+        let b = raw[i];
+        i += 1;
+        if is_space(b) {
+            gap = 0 < n;
+        } else {
+            if gap {
+                dst[n] = 32;
+                dst[n + 1] = b;
+                n += 2;
+                gap = false;
+            } else {
+                dst[n] = b;
+                n += 1;
+            }
+        }
+    }
+    n
 }
