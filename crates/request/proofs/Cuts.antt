@@ -37,11 +37,11 @@ module _ {M : Type 0} (stops : M → ℕ → Bool) (next : M → ℕ → M) (aga
   pub from-past : (s : List ℕ) (p : ℕ) → length s < p → cuts-from s p ≡ []
   from-past s p h = ap (λ (t : Bool). pick t (cut-by stops next again (drop p s)) []) (lt-leb p (length s) h)
 
-  span-yes : (m : M) (b : ℕ) (s : List ℕ) → stops m b ≡ true → span stops next m (b ∷ s) ≡ 0
+  pub span-yes : (m : M) (b : ℕ) (s : List ℕ) → stops m b ≡ true → span stops next m (b ∷ s) ≡ 0
   unfolding span
   span-yes m b s e = ap (λ (t : Bool). pick t 0 (suc (span stops next (next m b) s))) e
 
-  span-no : (m : M) (b : ℕ) (s : List ℕ) → stops m b ≡ false → span stops next m (b ∷ s) ≡ suc (span stops next (next m b) s)
+  pub span-no : (m : M) (b : ℕ) (s : List ℕ) → stops m b ≡ false → span stops next m (b ∷ s) ≡ suc (span stops next (next m b) s)
   unfolding span
   span-no m b s e = ap (λ (t : Bool). pick t 0 (suc (span stops next (next m b) s))) e
 

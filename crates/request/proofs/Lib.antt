@@ -11,4 +11,5 @@ pub mod Parts
 pub mod Search
 pub mod StartParts
 pub mod Trims
+pub mod Values
 pub mod Writing

@@ -3,7 +3,7 @@ use mathlib.Core.Bool.{Bool, true, false, not, _&&_}
 use mathlib.Core.Option.{Option, none, some}
 use mathlib.Core.Path.{_≡_}
 use Prim.Native.Nat.{ℕ, _+_, _-_, _≤_}
-use mathlib.Core.List.{List, [], _∷_, _++_}
+use mathlib.Core.List.{List, [], _∷_, _++_, map}
 use Rattle.octets.specs.Lists.{text, pick, every, empty}
 use Rattle.octets.specs.Bytes.{same-any-case, token, uri-byte}
 use Rattle.request.specs.Cutting.{Cut, first-cut, cut-by}
@@ -13,6 +13,10 @@ use Rattle.request.specs.Request.{empty-line, paired, head-lines, Start,
 use Rattle.request.specs.declared.StartLine.{StartLine}
 use Rattle.request.specs.declared.StartLine.the-variants.{Bad, Good}
 use Rattle.request.specs.declared.Judged.{Judged}
+use Rattle.request.specs.Values.{Mode, plain, quoted, escaped, angle, trim-left, trim-right, trim, pieces}
+use Rattle.request.specs.declared.Piece.{Piece}
+use Rattle.request.specs.declared.Within.{Within}
+use Rattle.request.specs.declared.Within.the-variants.{Text, Quotes, Escape, Angles}
 use Rattle.request.specs.declared.Reading.{Reading}
 use Rattle.request.specs.declared.Reading.the-variants.{Unreadable, Readable}
 use Rattle.request.specs.declared.Judged.the-variants.{Refused, Accepted}
@@ -134,3 +138,26 @@ pub record Read (s starts colons starts′ colons′ : List ℕ) (r : Reading) :
   pub answer : r ≡ reading (head-of s) (read-request s)
   pub starts-are : starts′ ≡ over (starts-of (head-of s) (read-request s)) starts
   pub colons-are : colons′ ≡ over (colons-of (head-of s) (read-request s)) colons
+
+-- ---- values
+
+-- where a byte stands, in the code's words
+abbrev pub mode-of : Within → Mode
+mode-of Text = plain
+mode-of Quotes = quoted
+mode-of Escape = escaped
+mode-of Angles = angle
+
+-- the values of a reduced value from a place on; none past its end
+unfoldable pub values-from : List ℕ → ℕ → List (List ℕ)
+unfolding cut-by trim-left trim-right
+values-from v p = map trim (pick (leb p (length v)) (pieces (drop p v)) [])
+
+-- a piece t at p, trimmed; the next one starts past the comma
+abbrev pub trimmed-at : ℕ → List ℕ → Piece
+trimmed-at p t = record { start = p + (length (trim-right t) - length (trim t)); end = p + length (trim-right t); next = p + length t + 1 }
+
+-- the first piece from a place on
+unfoldable pub piece-at : List ℕ → ℕ → Piece
+unfolding cut-by trim-left trim-right
+piece-at v p = trimmed-at p (first-line (pieces (drop p v)))

@@ -22,6 +22,10 @@ span stops next m (b ∷ s) = pick (stops m b) 0 (suc (span stops next (next m b
 abbrev pub line-break : List ℕ → Bool
 line-break s = begins (13 ∷ 10 ∷ []) s && not (white (getD s 2 0))
 
+-- something other than SP and HTAB stands here
+abbrev pub text-here : List ℕ → Bool
+text-here s = not (white (getD s 0 0))
+
 -- a byte of a URI, or else of a token
 abbrev pub word-byte : Bool → ℕ → Bool
 word-byte uri b = pick uri (uri-byte b) (token-byte b)

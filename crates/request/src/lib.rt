@@ -8,10 +8,10 @@ ghost use lib.ListN.{length, take, drop};
 ghost use Rattle.octets.specs.Lists.{every, empty};
 ghost use Rattle.octets.specs.Bytes.{white};
 ghost use Rattle.request.specs.Cutting.{begins};
-ghost use Rattle.request.specs.Places.{head-of, part, parts-right, start-places, is-field, lines-from, judged, Fillable, Filled, over, Read};
+ghost use Rattle.request.specs.Places.{head-of, part, parts-right, start-places, is-field, lines-from, judged, Fillable, Filled, over, Read, mode-of, piece-at};
 ghost use Rattle.request.specs.Request.{empty-line, head-byte, paired, head-lines, start-line, head, read-request};
-ghost use Rattle.request.specs.Searching.{first, line-break, word-byte, space};
-ghost use Rattle.request.specs.Values.{trim-right, reduced};
+ghost use Rattle.request.specs.Searching.{first, span, line-break, text-here, word-byte, space};
+ghost use Rattle.request.specs.Values.{plain, step, cuts, trim-right, reduced, never-cut};
 
 // Whether CR LF CR LF stands at i.
 fn empty_line_at(s: &[u8], i: usize) -> bool
@@ -387,4 +387,124 @@ pub fn normalise(raw: &[u8], dst: &mut [u8]) -> usize
         }
     }
     n
+}
+
+// "Never cut: .., in any case" (document 01).
+pub fn never_cut(name: &[u8]) -> bool
+    ensures { λ r. ⌜ r ≡ never-cut (now (name .entry)) ⌝ }
+{
+    let a = octets::same_letters(name, b"Authorization");
+    let b = octets::same_letters(name, b"Proxy-Authorization");
+    let c = octets::same_letters(name, b"WWW-Authenticate");
+    let d = octets::same_letters(name, b"Proxy-Authenticate");
+    let e = octets::same_letters(name, b"Date");
+    let f = octets::same_letters(name, b"Subject");
+    a | b | c | d | e | f
+}
+
+// Where a byte of a value stands: in plain text, in quoted text, in it just after `\`, or in `<>`.
+enum Within {
+    Text,
+    Quotes,
+    Escape,
+    Angles,
+}
+
+fn next_within(w: Within, b: u8) -> Within
+    ensures { λ r. ⌜ mode-of r ≡ step (mode-of w) b ⌝ }
+{
+    match w {
+        Within::Text => {
+            if b == 34 {
+                return Within::Quotes;
+            }
+            if b == 60 {
+                return Within::Angles;
+            }
+            Within::Text
+        }
+        Within::Quotes => {
+            if b == 92 {
+                return Within::Escape;
+            }
+            if b == 34 {
+                return Within::Text;
+            }
+            Within::Quotes
+        }
+        Within::Escape => Within::Quotes,
+        Within::Angles => {
+            if b == 62 {
+                return Within::Text;
+            }
+            Within::Angles
+        }
+    }
+}
+
+// Whether a byte is a comma that cuts.
+fn cuts_here(w: Within, b: u8) -> bool
+    ensures { λ r. ⌜ r ≡ cuts (mode-of w) b ⌝ }
+{
+    match w {
+        Within::Text => b == 44,
+        Within::Quotes => false,
+        Within::Escape => false,
+        Within::Angles => false,
+    }
+}
+
+// The end of the piece of a value that starts at a place.
+fn piece_end(v: &[u8], from: usize) -> usize
+    requires { ⌜ from ≤ length (now v) ⌝ }
+    ensures { λ r. ⌜ r ≡ from + span cuts step plain (drop from (now (v .entry))) ⌝ }
+{
+    let mut w = Within::Text;
+    let mut i = from;
+    while i < v.len() {
+        let b = v[i];
+        if cuts_here(w, b) {
+            return i;
+        }
+        w = next_within(w, b);
+        i += 1;
+    }
+    i
+}
+
+// How many SP and HTAB stand at the left end.
+fn blanks(t: &[u8]) -> usize
+    ensures { λ r. ⌜ r ≡ first text-here (now (t .entry)) ⌝ }
+{
+    let mut i: usize = 0;
+    while i < t.len() {
+        let b = t[i];
+        if !is_white(b) {
+            return i;
+        }
+        i += 1;
+    }
+    i
+}
+
+// A piece of a value, trimmed: it stands from start to end; the next one is to be looked for at next, if that is not past the value's end.
+pub struct Piece {
+    pub start: usize,
+    pub end: usize,
+    pub next: usize,
+}
+
+// The piece that starts at a place of a reduced value.
+pub fn next_value(v: &[u8], from: usize) -> Piece
+    requires { ⌜ (from ≤ length (now v)) × (length (now v) ≤ 65535) ⌝ }
+    ensures { λ r. ⌜ r ≡ piece-at (now (v .entry)) from ⌝ }
+{
+    let k = piece_end(v, from);
+    let e = from + trimmed_end(&v[from..k]);
+    let a = blanks(&v[from..e]);
+    Piece {
+        start: from + a,
+        end: e,
+        next: k + 1,
+    }
 }
