@@ -205,3 +205,45 @@ module _ (v : List ℕ) (p : ℕ) (inside : p ≤ length v) (k : ℕ) (k-is : k 
         where
           shorter : p + x - p - a ≡ p + x - (p + a)
           shorter = omega arith
+
+-- ---- for callers: every value, once and in order
+
+-- what an answer of `next_value` says of the values from p on
+pub record ValueAt (v : List ℕ) (p : ℕ) (r : Piece) : Type 0 where
+  pub list : values-from v p ≡ part v (r .start) (r .end) ∷ values-from v (r .next)
+  pub order : r .start ≤ r .end
+  pub inside : r .end ≤ length v
+  pub on : p < r .next
+  pub next-inside : r .next ≤ length v + 1
+
+pub value-says : (v : List ℕ) (p : ℕ) → p ≤ length v → ValueAt v p (piece-at v p)
+unfolding values-from
+value-says v p inside =
+    let k = p + span cuts step plain (drop p v) in
+    let x = length (trim-right (part v p k)) in
+    let a = first text-here (part v p (p + x)) in
+    let short : a ≤ x = blanks-le v p inside k refl x refl a refl in
+    let end : k ≤ length v = piece-inside v p inside k refl in
+    subst (ValueAt v p) (piece-is v p inside k refl x refl a refl) (record {
+      list =
+          ap (map trim) (piece-from cuts step plain after-cut v p k inside refl)
+          ∙ ap (λ (l : List ℕ). l ∷ map trim (pieces-from cuts step plain v (k + 1))) (piece-part v p inside k refl x refl a refl);
+      order = omega arith;
+      inside = trimmed-le v p inside k refl x refl;
+      on = omega (arith, piece-order v p inside k refl);
+      next-inside = omega arith;
+    })
+
+pub values-past : (v : List ℕ) (p : ℕ) → length v < p → values-from v p ≡ []
+unfolding values-from
+values-past v p past = ap (map trim) (from-past cuts step plain after-cut v p past)
+
+-- the values of a field: the whole of a reduced value that is never cut, else its pieces from the start on
+module _ (name v : List ℕ) where
+  pub values-whole : never-cut name ≡ true → values-of name v ≡ v ∷ []
+  unfolding values-of
+  values-whole e = ap (λ (t : Bool). pick t (v ∷ []) (map trim (pieces v))) e
+
+  pub values-cut : never-cut name ≡ false → values-of name v ≡ values-from v 0
+  unfolding values-of values-from
+  values-cut e = ap (λ (t : Bool). pick t (v ∷ []) (map trim (pieces v))) e ∙ sym (ap (map trim) (from-start cuts step plain after-cut v))
