@@ -22,7 +22,7 @@ use Rattle.request.specs.declared.StartLine.the-variants.{Bad, Good}
 use Rattle.request.specs.declared.Judged.{Judged}
 use Rattle.request.specs.declared.Judged.the-variants.{Refused, Accepted}
 use Rattle.request.proofs.Head.{Pairs, pairs, pairs-paired}
-use Rattle.request.proofs.Search.{first-le, first-yes, first-no, head-end}
+use Rattle.request.proofs.Search.{first-le, first-holds, begins-long, head-end}
 use Rattle.request.proofs.StartParts.{started, start-no-sp, start-one-sp, start-wrong, start-whole}
 use Rattle.request.proofs.Judging.{Starts, starts, cr, built, head-built, judge-long, judge-endless, judge-bytes, read-by-test, head-is-front}
 use Rattle.request.proofs.Parts.{part-front, length-part}
@@ -129,23 +129,6 @@ pub record Accepts (s : List ℕ) (e m u f : ℕ) : Type 0 where
   pub paired-on : T (paired 0 (drop f (take e s)))
   pub lines-are : field-lines (take e s) ≡ lines-from (take e s) f
   pub fields-are : all-fields (lines-from (take e s) f) ≡ some (request .fields)
-
--- a mark that was found lies inside
-begins-long : (mark s : List ℕ) → begins mark s ≡ true → length mark ≤ length s
-begins-long [] s e = zero-le
-begins-long (a ∷ mark) [] e = let z : _≡_ {A = ℕ} 0 1 = cc in absurd (omega arith)
-begins-long (a ∷ mark) (b ∷ s) e = suc-le-suc (begins-long mark s (is-true (begins mark s) (right (eqb a b) (begins mark s) (T-of e))))
-
-module _ (p : List ℕ → Bool) where
-  holds-by : (b : ℕ) (s : List ℕ) → (first p s < length s → p (drop (first p s) s) ≡ true) → (t : Bool) → p (b ∷ s) ≡ t
-      → first p (b ∷ s) < suc (length s) → p (drop (first p (b ∷ s)) (b ∷ s)) ≡ true
-  holds-by b s h true e l = ap (λ (k : ℕ). p (drop k (b ∷ s))) (first-yes p b s e) ∙ e
-  holds-by b s h false e l = ap (λ (k : ℕ). p (drop k (b ∷ s))) (first-no p b s e) ∙ h (omega (arith, first-no p b s e))
-
-  -- the test holds at the place found
-  first-holds : (s : List ℕ) → first p s < length s → p (drop (first p s) s) ≡ true
-  first-holds [] l = absurd (not-suc-le-zero l)
-  first-holds (b ∷ s) l = holds-by b s (first-holds s) (p (b ∷ s)) refl l
 
 refused-not : (j : Judged) (e m u f : ℕ) → Accepted e m u f ≡ j → Refused ≡ j → ⊥
 refused-not j e m u f a r = let z : _≡_ {A = ℕ} 0 1 = cc in omega arith

@@ -42,12 +42,12 @@ fields-count [] fs e = ap length (none-left fs e)
     none-left a q = cc
 fields-count (l ∷ ls) fs e = count-step (length ls) (field l) (all-fields ls) fs (fields-count ls) e
 
-starts-length : (at : ℕ) (ls : List (List ℕ)) → length (line-starts at ls) ≡ length ls
+pub starts-length : (at : ℕ) (ls : List (List ℕ)) → length (line-starts at ls) ≡ length ls
 unfolding line-starts
 starts-length at [] = refl
 starts-length at (l ∷ ls) = ap suc (starts-length (at + length l + 2) ls)
 
-colons-length : (at : ℕ) (ls : List (List ℕ)) → length (line-colons at ls) ≡ length ls
+pub colons-length : (at : ℕ) (ls : List (List ℕ)) → length (line-colons at ls) ≡ length ls
 unfolding line-colons
 colons-length at [] = refl
 colons-length at (l ∷ ls) = ap suc (colons-length (at + length l + 2) ls)

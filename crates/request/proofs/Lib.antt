@@ -4,6 +4,7 @@ pub mod Cuts
 pub mod Fields
 pub mod Filling
 pub mod Head
+pub mod Indexing
 pub mod Judging
 pub mod Lines
 pub mod Norm

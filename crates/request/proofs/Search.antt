@@ -15,6 +15,7 @@ use lib.Seq.{drop-cons, getD-drop, length-take-le}
 use Rattle.octets.specs.Lists.{pick}
 use Rattle.octets.specs.Bytes.{white}
 use Rattle.octets.specs.Option.{_>>=_}
+use Rattle.octets.proofs.Tests.{right, T-of, is-true}
 use Rattle.request.specs.Cutting.{Cut, begins, first-cut}
 use Rattle.request.specs.Places.{before-cut, head-of}
 use Rattle.request.specs.Request.{empty-line}
@@ -140,6 +141,23 @@ module _ (s : List ℕ) (b t i : ℕ) (k : Came (begins (b ∷ [])) s t i) (insi
 
   pub place-next : (getD s i 0 ≡ b → ⊥) → Came (begins (b ∷ [])) s t (i + 1)
   place-next h = came-next (begins (b ∷ [])) s t i k inside (rw (drop-cons s i 0 inside, ne-eqb b (getD s i 0) (λ e. h (sym e))))
+
+-- a mark that was found lies inside
+pub begins-long : (mark s : List ℕ) → begins mark s ≡ true → length mark ≤ length s
+begins-long [] s e = zero-le
+begins-long (a ∷ mark) [] e = let z : _≡_ {A = ℕ} 0 1 = cc in absurd (omega arith)
+begins-long (a ∷ mark) (b ∷ s) e = suc-le-suc (begins-long mark s (is-true (begins mark s) (right (eqb a b) (begins mark s) (T-of e))))
+
+module _ (p : List ℕ → Bool) where
+  holds-by : (b : ℕ) (s : List ℕ) → (first p s < length s → p (drop (first p s) s) ≡ true) → (t : Bool) → p (b ∷ s) ≡ t
+      → first p (b ∷ s) < suc (length s) → p (drop (first p (b ∷ s)) (b ∷ s)) ≡ true
+  holds-by b s h true e l = ap (λ (k : ℕ). p (drop k (b ∷ s))) (first-yes p b s e) ∙ e
+  holds-by b s h false e l = ap (λ (k : ℕ). p (drop k (b ∷ s))) (first-no p b s e) ∙ h (omega (arith, first-no p b s e))
+
+  -- the test holds at the place found
+  pub first-holds : (s : List ℕ) → first p s < length s → p (drop (first p s) s) ≡ true
+  first-holds [] l = absurd (not-suc-le-zero l)
+  first-holds (b ∷ s) l = holds-by b s (first-holds s) (p (b ∷ s)) refl l
 
 -- ---- a cut at the first mark
 

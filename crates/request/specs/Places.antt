@@ -2,18 +2,19 @@
 use mathlib.Core.Bool.{Bool, true, false, not, _&&_}
 use mathlib.Core.Option.{Option, none, some}
 use mathlib.Core.Path.{_≡_}
-use Prim.Native.Nat.{ℕ, _+_, _-_, _≤_}
+use Prim.Native.Nat.{ℕ, _+_, _-_, _≤_, _<_}
 use mathlib.Core.List.{List, [], _∷_, _++_, map}
 use Rattle.octets.specs.Lists.{text, pick, every, empty}
 use Rattle.octets.specs.Bytes.{same-any-case, token, uri-byte}
 use Rattle.request.specs.Cutting.{Cut, first-cut, cut-by}
-use lib.ListN.{length, take, drop}
+use lib.ListN.{length, getD, take, drop}
 use lib.Dec.{T, leb}
 use Rattle.request.specs.Request.{empty-line, paired, head-lines, Start, whole-fields, field, Request, read-request}
 use Rattle.request.specs.declared.StartLine.{StartLine}
 use Rattle.request.specs.declared.StartLine.the-variants.{Bad, Good}
 use Rattle.request.specs.declared.Judged.{Judged}
 use Rattle.request.specs.Values.{Mode, plain, quoted, escaped, angle, trim-left, trim-right, trim, pieces}
+use Rattle.request.specs.declared.FieldParts.{FieldParts}
 use Rattle.request.specs.declared.Piece.{Piece}
 use Rattle.request.specs.declared.Within.{Within}
 use Rattle.request.specs.declared.Within.the-variants.{Text, Quotes, Escape, Angles}
@@ -138,6 +139,31 @@ pub record Read (s starts colons starts′ colons′ : List ℕ) (r : Reading) :
   pub answer : r ≡ reading (head-of s) (read-request s)
   pub starts-are : starts′ ≡ over (starts-of (head-of s) (read-request s)) starts
   pub colons-are : colons′ ≡ over (colons-of (head-of s) (read-request s)) colons
+
+-- ---- one field
+
+-- the parts of a line that starts at a place: the name as written, and the raw value
+abbrev pub parts-of : ℕ → List ℕ → FieldParts
+parts-of at l = record {
+  name = at;
+  stop = at + length (trim-right (take (colon-in l) l));
+  value = at + colon-in l + 1;
+  end = at + length l;
+}
+
+-- those of a head's field i
+unfoldable pub field-parts : List ℕ → ℕ → FieldParts
+unfolding field-lines line-starts colon-in trim-right
+field-parts h i = parts-of (getD (line-starts (fields-start h) (field-lines h)) i 0) (getD (field-lines h) i [])
+
+-- the lent places hold what `read` wrote of the request s, and i is one of its fields
+pub record Indexed (s starts colons : List ℕ) (head fields i : ℕ) : Type 0 where
+  pub method : ℕ
+  pub uri : ℕ
+  pub read : Readable method uri head fields ≡ reading (head-of s) (read-request s)
+  pub starts-are : take fields starts ≡ starts-of (head-of s) (read-request s)
+  pub colons-are : take fields colons ≡ colons-of (head-of s) (read-request s)
+  pub inside : i < fields
 
 -- ---- values
 

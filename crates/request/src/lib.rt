@@ -2,13 +2,13 @@
 ghost use mathlib.Core.Path.{_≡_};
 ghost use mathlib.Core.Bool.{not, _&&_};
 ghost use mathlib.Core.List.{_∷_, []};
-ghost use Prim.Native.Nat.{_+_, _≤_, _<_};
-ghost use lib.Dec.{T};
-ghost use lib.ListN.{length, take, drop};
-ghost use Rattle.octets.specs.Lists.{every, empty};
+ghost use Prim.Native.Nat.{_+_, _-_, _≤_, _<_};
+ghost use lib.Dec.{T, ltb};
+ghost use lib.ListN.{length, getD, take, drop};
+ghost use Rattle.octets.specs.Lists.{every, empty, pick};
 ghost use Rattle.octets.specs.Bytes.{white};
 ghost use Rattle.request.specs.Cutting.{begins};
-ghost use Rattle.request.specs.Places.{head-of, part, parts-right, start-places, is-field, lines-from, judged, Fillable, Filled, over, Read, mode-of, piece-at};
+ghost use Rattle.request.specs.Places.{head-of, part, parts-right, start-places, is-field, lines-from, judged, Fillable, Filled, over, Read, field-parts, Indexed, mode-of, piece-at};
 ghost use Rattle.request.specs.Request.{empty-line, head-byte, paired, head-lines, start-line, head, read-request};
 ghost use Rattle.request.specs.Searching.{first, span, line-break, text-here, word-byte, space};
 ghost use Rattle.request.specs.Values.{plain, step, cuts, trim-right, reduced, never-cut};
@@ -506,5 +506,54 @@ pub fn next_value(v: &[u8], from: usize) -> Piece
         start: from + a,
         end: e,
         next: k + 1,
+    }
+}
+
+fn wide(x: u16) -> usize
+    ensures { λ r. ⌜ r ≡ x ⌝ }
+{
+    x as usize
+}
+
+// Where the line of field i ends: two bytes before the next one starts, or with the head.
+fn field_end(starts: &[u16], head: usize, fields: usize, i: usize) -> usize
+    requires { ⌜ (i < fields) × (fields ≤ length (now starts)) × ((i + 1 < fields) → 2 ≤ getD (now starts) (i + 1) 0) ⌝ }
+    ensures { λ r. ⌜ r ≡ pick (ltb (i + 1) fields) (getD (now (starts .entry)) (i + 1) 0 - 2) head ⌝ }
+{
+    if i + 1 < fields {
+        return wide(starts[i + 1]) - 2;
+    }
+    head
+}
+
+// A field: its name as written stands from name to stop, its raw value from value to end.
+pub struct FieldParts {
+    pub name: usize,
+    pub stop: usize,
+    pub value: usize,
+    pub end: usize,
+}
+
+// Field i of a request, from the places that `read` wrote: no line is looked for again.
+pub fn field_at(
+    s: &[u8],
+    starts: &[u16],
+    colons: &[u16],
+    head: usize,
+    fields: usize,
+    i: usize,
+) -> FieldParts
+    requires { ⌜ Indexed (now s) (now starts) (now colons) head fields i ⌝ }
+    ensures { λ r. ⌜ r ≡ field-parts (head-of (now (s .entry))) i ⌝ }
+{
+    let a = wide(starts[i]);
+    let k = wide(colons[i]);
+    let n = trimmed_end(&s[a..k]);
+    let e = field_end(starts, head, fields, i);
+    FieldParts {
+        name: a,
+        stop: a + n,
+        value: k + 1,
+        end: e,
     }
 }
