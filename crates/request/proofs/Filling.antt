@@ -29,14 +29,14 @@ module _ (l : List ℕ) (t : T (is-field l)) where
   abbrev colon : ℕ
   colon = first (begins (58 ∷ [])) l
 
-  colon-inside : colon < length l
+  pub colon-inside : colon < length l
   colon-inside =
       elim (decLe (length l) colon) [
         | yes h ↦ absurd (subst T (sym (field-no-colon l colon (sym (zero-add colon)) h)) t)
         | no h ↦ omega (arith, h)
       ]
 
-  name-there : T (token (trim-right (take colon l)))
+  pub name-there : T (token (trim-right (take colon l)))
   name-there = subst T (ap is-some (field-named l colon (sym (zero-add colon)) colon-inside) ∙ some-holds (token (trim-right (take colon l))) (field-at l colon)) t
 
   pub colon-after-name : 0 < colon

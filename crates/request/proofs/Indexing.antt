@@ -10,10 +10,10 @@ use native.Mathlib.Decide.{decLe}
 use mathlib.Core.List.{List, [], _∷_}
 use lib.Dec.{T, ltb}
 use lib.ListN.{length, getD, take, drop, length-drop, length-take}
-use lib.Seq.{drop-drop, getD-drop, getD-take, take-take, length-take-le}
+use lib.Seq.{drop-drop, getD-drop, getD-take, take-take, take-at, length-take-le}
 use borrow.Author.Tests.{lt-ltb, le-ltb, le-leb}
 use Rattle.octets.specs.Lists.{pick, every}
-use Rattle.octets.specs.Bytes.{white}
+use Rattle.octets.specs.Bytes.{token, white}
 use Rattle.octets.specs.Option.{_>>=_}
 use Rattle.octets.proofs.Tests.{left, T-of, is-true}
 use Rattle.request.specs.Cutting.{begins, first-cut}
@@ -27,10 +27,11 @@ use Rattle.request.specs.declared.Reading.the-variants.{Unreadable, Read
 use Rattle.request.proofs.Search.{first-le, first-holds, begins-long, before-length}
 use Rattle.request.proofs.Lines.{line-here, line-next, line-past}
 use Rattle.request.proofs.Fields.{end-order, end-inside}
-use Rattle.request.proofs.Parts.{length-part, part-front}
+use Rattle.request.proofs.Parts.{drop-take, length-part, part-front}
 use Rattle.request.proofs.Accepted.{Accepts, accepts}
 use Rattle.request.proofs.Answers.{fields-count, starts-length, colons-length}
-use Rattle.request.proofs.Trims.{trim-le}
+use Rattle.request.proofs.Trims.{trim-le, trim-front}
+use Rattle.request.proofs.Nth.{Nth, nth, field-is, name-token, colon-in-line, token-long}
 
 -- ---- the end of a field's line
 
@@ -134,6 +135,18 @@ drop-next : {A : Type 0} (l : List A) (j : ℕ) (y : A) (r : List A) → drop j 
 drop-next {A = A} l j y r e = sym (drop-drop 1 j l) ∙ ap (drop 1) e
 
 -- ---- field i of a request
+
+-- what an answer of `field_at` says of the fields of the request q, whose head ends at head
+pub record FieldSays (s : List ℕ) (q : Request) (head i : ℕ) (r : FieldParts) : Type 0 where
+  pub list : drop i (q .fields)
+      ≡ record {
+        name = name-as-matched (part s (r .name) (r .stop));
+        values = values-of (name-as-matched (part s (r .name) (r .stop))) (reduced (part s (r .value) (r .end)));
+      } ∷ drop (i + 1) (q .fields)
+  pub name-order : r .name < r .stop
+  pub colon-after : r .stop < r .value
+  pub value-order : r .value ≤ r .end
+  pub inside : r .end ≤ head
 
 readable-of : (h : List ℕ) (o : Option Request) (m u e n : ℕ) → Readable m u e n ≡ reading h o → Accepted (length h) m u (fields-start h) ≡ judged h o
 readable-of h none m u e n q = let z : _≡_ {A = ℕ} 0 1 = cc in absurd (omega arith)
@@ -253,6 +266,20 @@ module _ (s starts colons : List ℕ) (head fields i : ℕ) (x : Indexed s start
   pub next-room : i + 1 < fields → 2 ≤ getD starts (i + 1) 0
   next-room more = omega (arith, next-there more)
 
+  -- the parts of field i are those of this line
+  parts-so : field-parts (head-of s) i ≡ parts-of at l
+  unfolding field-parts
+  parts-so = (λ j. parts-of (the-start j) (the-line j))
+    where
+      lines-are : field-lines (head-of s) ≡ ls
+      lines-are = ap field-lines (a .head-is) ∙ a .lines-are
+
+      the-start : getD (line-starts (fields-start (head-of s)) (field-lines (head-of s))) i 0 ≡ at
+      the-start = ap (λ (r : List (List ℕ)). getD (line-starts f r) i 0) lines-are ∙ at-front (line-starts f ls) i at 0 _ (line .starts)
+
+      the-line : getD (field-lines (head-of s)) i [] ≡ l
+      the-line = ap (λ (r : List (List ℕ)). getD r i []) lines-are ∙ at-front ls i l [] later (line .lines)
+
   -- what the code finds
   pub starts-place : i < length starts
   starts-place = omega (arith, ap length starts-is, starts-length f ls, count, length-take fields starts, min-le-right fields (length starts), x .inside)
@@ -287,14 +314,13 @@ module _ (s starts colons : List ℕ) (head fields i : ℕ) (x : Indexed s start
 
       pub parts-are : (e : ℕ) → e ≡ pick (ltb (i + 1) fields) (getD starts (i + 1) 0 - 2) head
           → _≡_ {A = FieldParts} (record { name = p; stop = p + n; value = k + 1; end = e }) (field-parts (head-of s) i)
-      unfolding field-parts
       parts-are e e-is =
           let p-at : p ≡ at = p-is ∙ start-there in
           let n-so : p + n ≡ at + length (trim-right (take (colon-in l) l)) = (λ j. p-at j + (n-is ∙ ap (λ (r : List ℕ). length (trim-right r)) name-is) j) in
           let k-so : k + 1 ≡ at + colon-in l + 1 = ap (λ (j : ℕ). j + 1) (k-is ∙ colon-there) in
           let e-so : e ≡ at + length l = end-found e e-is ∙ omega (arith, long-l, at-le) in
           (λ j. record { name = p-at j; stop = n-so j; value = k-so j; end = e-so j })
-          ∙ sym (λ j. parts-of (the-start j) (the-line j))
+          ∙ sym parts-so
         where
           end-found : (e : ℕ) → e ≡ pick (ltb (i + 1) fields) (getD starts (i + 1) 0 - 2) head → e ≡ end
           end-found e e-is =
@@ -305,11 +331,81 @@ module _ (s starts colons : List ℕ) (head fields i : ℕ) (x : Indexed s start
                     e-is ∙ sym (end-by-next starts head fields i (getD starts (i + 1) 0) refl more) ∙ omega (arith, next-there more)
               ]
 
-          lines-so : field-lines (head-of s) ≡ ls
-          lines-so = ap field-lines (a .head-is) ∙ a .lines-are
+  -- ---- for callers
 
-          the-start : getD (line-starts (fields-start (head-of s)) (field-lines (head-of s))) i 0 ≡ at
-          the-start = ap (λ (r : List (List ℕ)). getD (line-starts f r) i 0) lines-so ∙ at-front (line-starts f ls) i at 0 _ (line .starts)
+  lines-so : drop i ls ≡ l ∷ later
+  lines-so = line .lines
 
-          the-line : getD (field-lines (head-of s)) i [] ≡ l
-          the-line = ap (λ (r : List (List ℕ)). getD r i []) lines-so ∙ at-front ls i l [] later (line .lines)
+  the-field : Nth i l (a .request .fields)
+  the-field = nth i ls (a .request .fields) l later (a .fields-are) lines-so
+
+  abbrev c : ℕ
+  c = colon-in l
+
+  abbrev written : List ℕ
+  written = trim-right (take c l)
+
+  written-short : length written ≤ c
+  written-short = omega (arith, trim-le (take c l), length-take-le c l colon-le)
+
+  written-is : written ≡ part s at (at + length written)
+  written-is =
+      let n : at + length written - at ≡ length written = omega arith in
+      trim-front (take c l) ∙ take-take (length written) c l written-short
+      ∙ ap (take (length written)) line-is ∙ take-take (length written) (end - at) (drop at s) (omega (arith, written-short, colon-le, long-l))
+      ∙ ap (λ (k : ℕ). take k (drop at s)) (sym n)
+
+  raw-is : drop (c + 1) l ≡ part s (at + c + 1) (at + length l)
+  raw-is =
+      let n : end - at - (c + 1) ≡ at + length l - (at + c + 1) = omega (arith, long-l, at-le) in
+      let m : at + (c + 1) ≡ at + c + 1 = omega arith in
+      ap (drop (c + 1)) line-is ∙ drop-take (c + 1) (end - at) (drop at s)
+      ∙ (λ j. take (n j) ((drop-drop (c + 1) at s ∙ ap (λ (k : ℕ). drop k s) m) j))
+
+  is-token : T (token written)
+  is-token = name-token l (the-field .one) (the-field .one-is)
+
+  written-some : 0 < length written
+  written-some = token-long written is-token
+
+  says : FieldSays s (a .request) head i (parts-of at l)
+  says = record {
+    list =
+        the-field .there
+        ∙ ap (λ (f : Field). f ∷ drop (i + 1) (a .request .fields)) (field-is l (the-field .one) (the-field .one-is))
+        ∙ (λ j. record { name = name-as-matched (written-is j); values = values-of (name-as-matched (written-is j)) (reduced (raw-is j)) } ∷ drop (i + 1) (a .request .fields));
+    name-order = omega (arith, written-some);
+    colon-after = omega (arith, written-short);
+    value-order = omega (arith, colon-in-line l (the-field .one) (the-field .one-is));
+    inside = omega (arith, long-l, at-le, end-le);
+  }
+
+  pub field-says : (q : Request) → read-request s ≡ some q → FieldSays s q head i (field-parts (head-of s) i)
+  field-says q e =
+      let same : a .request ≡ q = the-request (a .request) q (sym (a .read) ∙ e) in
+      subst (λ (r : FieldParts). FieldSays s q head i r) (sym parts-so) (subst (λ (y : Request). FieldSays s y head i (parts-of at l)) same says)
+    where
+      the-request : (y z : Request) → some y ≡ some z → y ≡ z
+      the-request y z w = cc
+
+-- what `read` wrote
+pub indexed : (s starts colons starts′ colons′ : List ℕ) (m u head fields i : ℕ) → Read s starts colons starts′ colons′ (Readable m u head fields) → i < fields → Indexed s starts′ colons′ head fields i
+indexed s starts colons starts′ colons′ m u head fields i k inside =
+    let a = accepted-by s m u head fields (k .answer) in
+    let ls = lines-from (take head s) (fields-start (head-of s)) in
+    let lines : field-lines (head-of s) ≡ ls = ap field-lines (a .head-is) ∙ a .lines-are in
+    let count : length ls ≡ fields = sym (fields-count ls (a .request .fields) (a .fields-are)) ∙ readable-count (head-of s) (read-request s) m u head fields (a .request) (k .answer) (a .read) in
+    let starts-long : length (starts-of (head-of s) (read-request s)) ≡ fields =
+    ap (λ (o : Option Request). length (starts-of (head-of s) o)) (a .read) ∙ starts-length (fields-start (head-of s)) (field-lines (head-of s)) ∙ ap length lines ∙ count
+    in
+    let colons-long : length (colons-of (head-of s) (read-request s)) ≡ fields =
+    ap (λ (o : Option Request). length (colons-of (head-of s) o)) (a .read) ∙ colons-length (fields-start (head-of s)) (field-lines (head-of s)) ∙ ap length lines ∙ count
+    in
+    record {
+      method = m;
+      uri = u;
+      read = k .answer;
+      starts-are = ap (take fields) (k .starts-are) ∙ take-at (starts-of (head-of s) (read-request s)) _ fields starts-long;
+      colons-are = ap (take fields) (k .colons-are) ∙ take-at (colons-of (head-of s) (read-request s)) _ fields colons-long;
+      inside = inside;
+    }

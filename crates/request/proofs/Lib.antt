@@ -8,6 +8,7 @@ pub mod Indexing
 pub mod Judging
 pub mod Lines
 pub mod Norm
+pub mod Nth
 pub mod Parts
 pub mod Search
 pub mod StartParts
