@@ -9,7 +9,7 @@ ghost use Rattle.octets.specs.Lists.{every, empty, pick};
 ghost use Rattle.octets.specs.Bytes.{white};
 ghost use Rattle.request.specs.Cutting.{begins};
 ghost use Rattle.request.specs.Places.{head-of, part, parts-right, start-places, is-field, lines-from, judged, Fillable, Filled, over, Read, field-parts, Indexed, mode-of, piece-at};
-ghost use Rattle.request.specs.Request.{empty-line, head-byte, paired, head-lines, start-line, head, read-request};
+ghost use Rattle.request.specs.Request.{empty-line, head-byte, paired, head-lines, start-line, name-as-matched, head, read-request};
 ghost use Rattle.request.specs.Searching.{first, span, line-break, text-here, word-byte, space};
 ghost use Rattle.request.specs.Values.{plain, step, cuts, trim-right, reduced, never-cut};
 
@@ -556,4 +556,17 @@ pub fn field_at(
         value: k + 1,
         end: e,
     }
+}
+
+// Writes a name as it is matched to the front of the lent place. It answers how many bytes it wrote. Whoever matches a name takes it from here.
+pub fn name_into(written: &[u8], dst: &mut [u8]) -> usize
+    requires { ⌜ length (name-as-matched (now written)) ≤ length (now dst) ⌝ }
+    ensures { λ r. ⌜ (r ≡ length (name-as-matched (now (written .entry)))) × (now (dst .exit) ≡ over (name-as-matched (now (written .entry))) (now (dst .entry))) ⌝ }
+{
+    let mut i: usize = 0;
+    while i < written.len() {
+        dst[i] = written[i];
+        i += 1;
+    }
+    i
 }
