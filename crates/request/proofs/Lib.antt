@@ -1,5 +1,6 @@
 pub mod Accepted
 pub mod Answers
+pub mod BodyLines
 pub mod Cuts
 pub mod Fields
 pub mod Filling

@@ -6,14 +6,17 @@ use Prim.Native.Nat.{ℕ, _+_, _-_, _≤_, _<_}
 use mathlib.Core.List.{List, [], _∷_, _++_, map}
 use Rattle.octets.specs.Lists.{text, pick, every, empty}
 use Rattle.octets.specs.Bytes.{same-any-case, token, uri-byte}
-use Rattle.request.specs.Cutting.{Cut, first-cut, cut-by}
+use Rattle.request.specs.Body.{Line, drop-cr, ended, lines}
+use Rattle.request.specs.Cutting.{Cut, first-cut, cut-by, cut-at}
 use lib.ListN.{length, getD, take, drop}
-use lib.Dec.{T, leb}
+use lib.Dec.{T, leb, eqb}
 use Rattle.request.specs.Request.{empty-line, paired, head-lines, Start, whole-fields, field, Request, read-request}
 use Rattle.request.specs.declared.StartLine.{StartLine}
 use Rattle.request.specs.declared.StartLine.the-variants.{Bad, Good}
 use Rattle.request.specs.declared.Judged.{Judged}
 use Rattle.request.specs.Values.{Mode, plain, quoted, escaped, angle, trim-left, trim-right, trim, pieces}
+use Rattle.request.specs.declared.BodyLine.{BodyLine}
+use Rattle.request.specs.declared.BodyLine.the-variants.{Typed, Other, Done}
 use Rattle.request.specs.declared.FieldParts.{FieldParts}
 use Rattle.request.specs.declared.Piece.{Piece}
 use Rattle.request.specs.declared.Within.{Within}
@@ -187,3 +190,28 @@ trimmed-at p t = record { start = p + (length (trim-right t) - length (trim t));
 unfoldable pub piece-at : List ℕ → ℕ → Piece
 unfolding cut-by trim-left trim-right
 piece-at v p = trimmed-at p (first-line (pieces (drop p v)))
+
+-- ---- lines of a body
+
+-- a line without the CR before its LF, if an LF ends it
+abbrev pub ended-line : Bool → List ℕ → List ℕ
+ended-line at-lf l = pick at-lf (drop-cr l) l
+
+-- the places of a line l at p that is a field, as `line` has it
+abbrev pub line-places : ℕ → List ℕ → ℕ → BodyLine
+line-places p [] next = Other next
+line-places p (t ∷ []) next = Other next
+line-places p (t ∷ e ∷ v) next = pick (eqb e 61) (Typed p (p + 2) (p + 2 + length v) next) (Other next)
+
+-- the line at a place; none past the end
+unfoldable pub body-line : List ℕ → ℕ → BodyLine
+unfolding cut-by ended
+body-line b p =
+    pick (leb p (length b))
+    (line-places p (first-line (ended (cut-at 10 (drop p b)))) (p + length (first-line (cut-at 10 (drop p b))) + 1))
+    Done
+
+-- the lines that are fields, from a place on; none past the end
+unfoldable pub session-from : List ℕ → ℕ → List Line
+unfolding cut-by ended
+session-from b p = pick (leb p (length b)) (lines (ended (cut-at 10 (drop p b)))) []

@@ -8,7 +8,7 @@ ghost use lib.ListN.{length, getD, take, drop};
 ghost use Rattle.octets.specs.Lists.{every, empty, pick};
 ghost use Rattle.octets.specs.Bytes.{white};
 ghost use Rattle.request.specs.Cutting.{begins};
-ghost use Rattle.request.specs.Places.{head-of, part, parts-right, start-places, is-field, lines-from, judged, Fillable, Filled, over, Read, field-parts, Indexed, mode-of, piece-at};
+ghost use Rattle.request.specs.Places.{head-of, part, parts-right, start-places, is-field, lines-from, judged, Fillable, Filled, over, Read, field-parts, Indexed, mode-of, piece-at, ended-line, body-line};
 ghost use Rattle.request.specs.Request.{empty-line, head-byte, paired, head-lines, start-line, name-as-matched, head, read-request};
 ghost use Rattle.request.specs.Searching.{first, span, line-break, text-here, word-byte, space};
 ghost use Rattle.request.specs.Values.{plain, step, cuts, trim-right, reduced, never-cut};
@@ -569,4 +569,61 @@ pub fn name_into(written: &[u8], dst: &mut [u8]) -> usize
         i += 1;
     }
     i
+}
+
+// Where the line of a body that stands from a place to k ends: before a CR that an LF follows.
+fn line_stop(b: &[u8], from: usize, k: usize) -> usize
+    requires { ⌜ (from ≤ k) × (k ≤ length (now b)) ⌝ }
+    ensures { λ r. ⌜ r ≡ from + length (ended-line (ltb k (length (now (b .entry)))) (part (now (b .entry)) from k)) ⌝ }
+{
+    if b.len() <= k {
+        return k;
+    }
+    if k <= from {
+        return k;
+    }
+    let last = b[k - 1];
+    if last == 13 {
+        return k - 1;
+    }
+    k
+}
+
+// A line of a body. One that is a field has its type, a byte, at start, and its value from value to end. The next line starts at next.
+pub enum BodyLine {
+    Typed {
+        start: usize,
+        value: usize,
+        end: usize,
+        next: usize,
+    },
+    Other {
+        next: usize,
+    },
+    Done,
+}
+
+// The line of a body that starts at a place; Done past the last.
+pub fn next_line(b: &[u8], from: usize) -> BodyLine
+    requires { ⌜ length (now b) ≤ 65535 ⌝ }
+    ensures { λ r. ⌜ r ≡ body-line (now (b .entry)) from ⌝ }
+{
+    if b.len() < from {
+        return BodyLine::Done;
+    }
+    let k = place_of(b, from, 10);
+    let next = k + 1;
+    let e = line_stop(b, from, k);
+    if e < from + 2 {
+        return BodyLine::Other { next: next };
+    }
+    if b[from + 1] != 61 {
+        return BodyLine::Other { next: next };
+    }
+    BodyLine::Typed {
+        start: from,
+        value: from + 2,
+        end: e,
+        next: next,
+    }
 }
