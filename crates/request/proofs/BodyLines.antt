@@ -9,8 +9,9 @@ use mathlib.Core.List.{List, [], _∷_, _++_}
 use lib.ListN.{length, getD, take, drop, length-drop, length-take}
 use lib.Dec.{leb, ltb, eqb}
 use lib.Seq.{drop-drop, getD-drop, getD-take, take-all, take-take, take-length, length-take-le}
-use borrow.Author.Tests.{le-leb, lt-leb, lt-ltb, le-ltb, eq-eqb, ne-eqb}
+use borrow.Author.Tests.{le-leb, lt-leb, lt-ltb, le-ltb, eq-eqb, ne-eqb, eqb-true, eqb-false}
 use Rattle.octets.specs.Lists.{pick, empty}
+use Rattle.octets.proofs.Tests.{test-cases}
 use Rattle.request.specs.Body.{Line, drop-cr, ended, line, lines, session-lines}
 use Rattle.request.specs.Cutting.{begins, cut-by, cut-at}
 use Rattle.request.specs.Places.{part, first-line, ended-line, line-places, body-line, session-from}
@@ -257,3 +258,81 @@ module _ (b : List ℕ) (p : ℕ) (inside : p ≤ length b) (k : ℕ) (k-is : k 
     next-typed h y =
         let long : 2 ≤ length clean = omega (arith, e-is) in
         sym (line-is ∙ places-typed p (k + 1) clean long (second long ∙ y) ∙ ap (λ (j : ℕ). Typed p (p + 2) j (k + 1)) (sym e-is))
+
+    typed-is : p + 2 ≤ e → getD b (p + 1) 0 ≡ 61 → session-from b p ≡ record { type = part b p (p + 1); value = part b (p + 2) e } ∷ session-from b (k + 1)
+    typed-is h y =
+        let long : 2 ≤ length clean = omega (arith, e-is) in
+        let one : p + 1 - p ≡ 1 = omega arith in
+        let n : length clean - 2 ≡ e - (p + 2) = omega (arith, e-is) in
+        let type-is : take 1 clean ≡ part b p (p + 1) = ap (take 1) clean-front ∙ take-take 1 (length clean) r (omega arith) ∙ ap (λ (j : ℕ). take j r) (sym one) in
+        let value-is : drop 2 clean ≡ part b (p + 2) e = ap (drop 2) clean-front ∙ drop-take 2 (length clean) r ∙ (λ i. take (n i) (drop-drop 2 p b i)) in
+        session-is ∙ ap (λ (ls : List Line). ls ++ session-from b (k + 1)) (line-typed clean long (second long ∙ y))
+        ∙ (λ i. record { type = type-is i; value = value-is i } ∷ session-from b (k + 1))
+
+    other-is : (p + 2 ≤ e → getD b (p + 1) 0 ≡ 61 → ⊥) → session-from b p ≡ session-from b (k + 1)
+    other-is n =
+        let nothing : line clean ≡ [] =
+            elim (decLe 2 (length clean)) [
+              | yes long ↦ line-other clean (λ y. n (omega (arith, e-is, long)) (sym (second long) ∙ y))
+              | no short ↦ line-short clean (omega (arith, short))
+            ]
+        in
+        session-is ∙ ap (λ (ls : List Line). ls ++ session-from b (k + 1)) nothing
+
+-- ---- for callers: every line that is a field, once and in order
+
+-- what an answer of `next_line` says of the lines from p on
+pub record TypedAt (b : List ℕ) (p start value end next : ℕ) : Type 0 where
+  pub list : session-from b p ≡ record { type = part b start (start + 1); value = part b value end } ∷ session-from b next
+  pub type-inside : start < length b
+  pub value-order : value ≤ end
+  pub value-inside : end ≤ length b
+  pub on : p < next
+  pub next-inside : next ≤ length b + 1
+
+pub record OtherAt (b : List ℕ) (p next : ℕ) : Type 0 where
+  pub list : session-from b p ≡ session-from b next
+  pub on : p < next
+  pub next-inside : next ≤ length b + 1
+
+abbrev pub LineSays : List ℕ → ℕ → BodyLine → Type 0
+LineSays b p (Typed start value end next) = TypedAt b p start value end next
+LineSays b p (Other next) = OtherAt b p next
+LineSays b p Done = session-from b p ≡ []
+
+pub line-says : (b : List ℕ) (p : ℕ) → LineSays b p (body-line b p)
+line-says b p =
+    elim (decLe p (length b)) [
+      | no past ↦ let h : length b < p = omega (arith, past) in subst (LineSays b p) (line-past b p h) (session-past b p h)
+      | yes inside ↦
+          let k = p + first (begins (10 ∷ [])) (drop p b) in
+          let e = p + length (ended-line (ltb k (length b)) (part b p k)) in
+          let k-le : k ≤ length b = lf-inside b p inside k refl in
+          let e-le : e ≤ k = omega (arith, clean-le b p inside k refl, lf-order b p inside k refl) in
+          elim (decLe (p + 2) e) [
+            | no short ↦
+                let h : e < p + 2 = omega (arith, short) in
+                subst (LineSays b p) (next-short b p inside k refl e refl h) (record {
+                  list = other-is b p inside k refl e refl (λ l y. short l);
+                  on = omega arith;
+                  next-inside = omega arith;
+                })
+            | yes h ↦
+                test-cases (eqb (getD b (p + 1) 0) 61)
+                (λ t. let y : getD b (p + 1) 0 ≡ 61 = eqb-true (getD b (p + 1) 0) 61 t in
+                  subst (LineSays b p) (next-typed b p inside k refl e refl h y) (record {
+                    list = typed-is b p inside k refl e refl h y;
+                    type-inside = omega arith;
+                    value-order = h;
+                    value-inside = omega arith;
+                    on = omega arith;
+                    next-inside = omega arith;
+                  }))
+                (λ t. let n : getD b (p + 1) 0 ≡ 61 → ⊥ = eqb-false (getD b (p + 1) 0) 61 t in
+                  subst (LineSays b p) (next-other b p inside k refl e refl h n) (record {
+                    list = other-is b p inside k refl e refl (λ l y. n y);
+                    on = omega arith;
+                    next-inside = omega arith;
+                  }))
+          ]
+    ]
