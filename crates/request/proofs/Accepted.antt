@@ -2,30 +2,29 @@
 use mathlib.Core.Bool.{Bool, true, false, not, _&&_}
 use mathlib.Core.Option.{Option, none, some}
 use mathlib.Core.Path.{_≡_, refl, sym, ap, _∙_, subst}
-use Prim.Native.Nat.{ℕ, zero, suc, _+_, _-_, _≤_, _<_, zero-le, suc-le-suc}
-use native.Mathlib.Nat.{zero-add, sub-zero, not-suc-le-zero}
+use mathlib.Core.List.{List, [], _∷_}
+use Prim.Native.Nat.{ℕ, _+_, _-_, _≤_, _<_}
+use native.Mathlib.Nat.{zero-add, sub-zero}
 use native.Mathlib.Omega.{arith}
 use native.Mathlib.Decide.{decLe}
-use mathlib.Core.List.{List, [], _∷_}
-use lib.Dec.{T, eqb}
+use lib.Dec.{T}
 use lib.ListN.{length, getD, take, drop, length-drop}
-use lib.Seq.{length-take-le, take-take, drop-cons}
-use Rattle.octets.specs.Lists.{every}
+use lib.Seq.{length-take-le, take-take}
 use Rattle.octets.specs.Bytes.{white}
-use Rattle.octets.specs.Option.{_>>=_, holds}
-use Rattle.octets.proofs.Tests.{test-cases, T-of, right, is-true}
+use Rattle.octets.specs.Lists.{every}
+use Rattle.octets.proofs.Tests.{test-cases, T-of, right}
 use Rattle.request.specs.Cutting.{begins}
 use Rattle.request.specs.Places.{head-of, part, parts-right, start-places, lines-from, first-line, later-lines, field-lines, fields-start, judged}
 use Rattle.request.specs.Request.{Field, Request, Start, head-byte, paired, head-lines, whole-fields, start-line, all-fields, head, empty-line, read-request}
 use Rattle.request.specs.Searching.{first}
-use Rattle.request.specs.declared.StartLine.the-variants.{Bad, Good}
 use Rattle.request.specs.declared.Judged.{Judged}
 use Rattle.request.specs.declared.Judged.the-variants.{Refused, Accepted}
+use Rattle.request.specs.declared.StartLine.the-variants.{Bad}
 use Rattle.request.proofs.Head.{Pairs, pairs, pairs-paired}
-use Rattle.request.proofs.Search.{first-le, first-holds, begins-long, head-end}
-use Rattle.request.proofs.StartParts.{started, start-no-sp, start-one-sp, start-wrong, start-whole}
 use Rattle.request.proofs.Judging.{Starts, starts, cr, built, head-built, judge-long, judge-endless, judge-bytes, read-by-test, head-is-front}
 use Rattle.request.proofs.Parts.{part-front, length-part}
+use Rattle.request.proofs.Search.{first-le, first-holds, begins-long, head-end}
+use Rattle.request.proofs.StartParts.{started, start-no-sp, start-one-sp, start-wrong, start-whole}
 
 -- ---- the start line
 

@@ -1,25 +1,21 @@
 -- What `read` answers and leaves in the lent places.
-use mathlib.Core.Bool.{Bool, true, false}
 use mathlib.Core.Option.{Option, none, some}
 use mathlib.Core.Path.{_≡_, refl, sym, ap, _∙_, subst}
-use Prim.Native.Nat.{ℕ, suc, _+_, _-_, _≤_, _<_}
+use mathlib.Core.List.{List, [], _∷_, _++_}
+use Prim.Native.Nat.{ℕ, suc, _+_, _-_, _≤_}
 use native.Mathlib.Nat.{sub-zero}
 use native.Mathlib.Omega.{arith}
-use mathlib.Core.List.{List, [], _∷_, _++_}
-use lib.Dec.{T}
 use lib.ListN.{length, take, drop}
 use lib.Seq.{length-take-le}
-use Rattle.octets.specs.Lists.{every}
 use Rattle.octets.specs.Option.{_>>=_}
 use Rattle.octets.proofs.Tests.{T-of}
-use Rattle.request.specs.Places.{head-of, part, is-some, is-field, lines-from, field-lines, fields-start, judged, line-starts, line-colons, Fillable, Filled, reading, starts-of, colons-of, over, Read}
-use Rattle.request.specs.Request.{Field, Request, paired, field, all-fields, read-request}
+use Rattle.request.specs.Places.{head-of, is-some, lines-from, field-lines, fields-start, judged, line-starts, line-colons, Fillable, Filled, reading, starts-of, colons-of, over, Read}
+use Rattle.request.specs.Request.{Field, Request, field, all-fields, read-request}
 use Rattle.request.specs.declared.Judged.{Judged}
 use Rattle.request.specs.declared.Judged.the-variants.{Refused, Accepted}
-use Rattle.request.specs.declared.Reading.{Reading}
 use Rattle.request.specs.declared.Reading.the-variants.{Unreadable, Readable}
-use Rattle.request.proofs.Judging.{all-fields-some}
 use Rattle.request.proofs.Accepted.{Accepts, accepts}
+use Rattle.request.proofs.Judging.{all-fields-some}
 use Rattle.request.proofs.Parts.{length-part}
 
 -- ---- as many fields as lines

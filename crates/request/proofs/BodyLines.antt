@@ -1,19 +1,19 @@
 -- The lines of a body by place: where each ends, and the list of those that are fields.
-use mathlib.Core.Bool.{Bool, true, false, not, _&&_, and-false}
+use mathlib.Core.Bool.{Bool, true, false, _&&_, and-false}
 use mathlib.Core.Path.{_≡_, refl, sym, ap, _∙_, subst}
+use mathlib.Core.List.{List, [], _∷_, _++_}
 use Prim.Native.Nat.{ℕ, zero, suc, _+_, _-_, _≤_, _<_, zero-le}
 use native.Mathlib.Nat.{le-of-eq, le-trans, min-le-right}
 use native.Mathlib.Omega.{arith}
 use native.Mathlib.Decide.{decLe}
-use mathlib.Core.List.{List, [], _∷_, _++_}
 use lib.ListN.{length, getD, take, drop, length-drop, length-take}
-use lib.Dec.{leb, ltb, eqb}
+use lib.Dec.{ltb, eqb}
 use lib.Seq.{drop-drop, getD-drop, getD-take, take-all, take-take, take-length, length-take-le}
 use borrow.Author.Tests.{le-leb, lt-leb, lt-ltb, le-ltb, eq-eqb, ne-eqb, eqb-true, eqb-false}
 use Rattle.octets.specs.Lists.{pick, empty}
 use Rattle.octets.proofs.Tests.{test-cases}
 use Rattle.request.specs.Body.{Line, drop-cr, ended, line, lines, session-lines}
-use Rattle.request.specs.Cutting.{begins, cut-by, cut-at}
+use Rattle.request.specs.Cutting.{begins, cut-at}
 use Rattle.request.specs.Places.{part, first-line, ended-line, line-places, body-line, session-from}
 use Rattle.request.specs.Searching.{first}
 use Rattle.request.specs.declared.BodyLine.{BodyLine}
@@ -272,10 +272,10 @@ module _ (b : List ℕ) (p : ℕ) (inside : p ≤ length b) (k : ℕ) (k-is : k 
     other-is : (p + 2 ≤ e → getD b (p + 1) 0 ≡ 61 → ⊥) → session-from b p ≡ session-from b (k + 1)
     other-is n =
         let nothing : line clean ≡ [] =
-            elim (decLe 2 (length clean)) [
-              | yes long ↦ line-other clean (λ y. n (omega (arith, e-is, long)) (sym (second long) ∙ y))
-              | no short ↦ line-short clean (omega (arith, short))
-            ]
+        elim (decLe 2 (length clean)) [
+          | yes long ↦ line-other clean (λ y. n (omega (arith, e-is, long)) (sym (second long) ∙ y))
+          | no short ↦ line-short clean (omega (arith, short))
+        ]
         in
         session-is ∙ ap (λ (ls : List Line). ls ++ session-from b (k + 1)) nothing
 
@@ -320,19 +320,19 @@ line-says b p =
             | yes h ↦
                 test-cases (eqb (getD b (p + 1) 0) 61)
                 (λ t. let y : getD b (p + 1) 0 ≡ 61 = eqb-true (getD b (p + 1) 0) 61 t in
-                  subst (LineSays b p) (next-typed b p inside k refl e refl h y) (record {
-                    list = typed-is b p inside k refl e refl h y;
-                    type-inside = omega arith;
-                    value-order = h;
-                    value-inside = omega arith;
-                    on = omega arith;
-                    next-inside = omega arith;
-                  }))
+                subst (LineSays b p) (next-typed b p inside k refl e refl h y) (record {
+                  list = typed-is b p inside k refl e refl h y;
+                  type-inside = omega arith;
+                  value-order = h;
+                  value-inside = omega arith;
+                  on = omega arith;
+                  next-inside = omega arith;
+                }))
                 (λ t. let n : getD b (p + 1) 0 ≡ 61 → ⊥ = eqb-false (getD b (p + 1) 0) 61 t in
-                  subst (LineSays b p) (next-other b p inside k refl e refl h n) (record {
-                    list = other-is b p inside k refl e refl (λ l y. n y);
-                    on = omega arith;
-                    next-inside = omega arith;
-                  }))
+                subst (LineSays b p) (next-other b p inside k refl e refl h n) (record {
+                  list = other-is b p inside k refl e refl (λ l y. n y);
+                  on = omega arith;
+                  next-inside = omega arith;
+                }))
           ]
     ]

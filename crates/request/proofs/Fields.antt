@@ -1,25 +1,25 @@
 -- A field's line, by the place of its colon.
 use mathlib.Core.Bool.{Bool, true, false, not, _&&_}
-use mathlib.Core.Option.{Option, none, some}
+use mathlib.Core.Option.{Option, some}
 use mathlib.Core.Path.{_≡_, refl, sym, ap, _∙_}
-use Prim.Native.Nat.{ℕ, suc, _+_, _-_, _≤_, _<_}
+use mathlib.Core.List.{List, [], _∷_}
+use Prim.Native.Nat.{ℕ, _+_, _-_, _≤_, _<_}
 use native.Mathlib.Nat.{sub-zero}
 use native.Mathlib.Omega.{arith}
-use mathlib.Core.List.{List, [], _∷_}
 use lib.Dec.{T}
 use lib.ListN.{length, take, drop, length-drop}
-use borrow.Author.Tests.{not-true, not-false}
 use lib.Seq.{take-take, length-take-le}
-use Rattle.octets.specs.Lists.{every, empty}
+use borrow.Author.Tests.{not-true, not-false}
 use Rattle.octets.specs.Bytes.{token}
+use Rattle.octets.specs.Lists.{every, empty}
 use Rattle.octets.specs.Option.{_>>=_, holds}
 use Rattle.request.specs.Cutting.{Cut, begins}
 use Rattle.request.specs.Places.{part, is-some, is-field, lines-from}
 use Rattle.request.specs.Request.{Field, paired, name-as-matched, field}
 use Rattle.request.specs.Searching.{first, line-break, word-byte}
 use Rattle.request.specs.Values.{trim-right, reduced, values-of}
-use Rattle.request.proofs.Search.{first-le, cut-found, cut-missing}
 use Rattle.request.proofs.Lines.{line-here, line-next, line-past}
+use Rattle.request.proofs.Search.{first-le, cut-found, cut-missing}
 use Rattle.request.proofs.Trims.{trim-front, trim-le}
 
 -- the field whose colon stands at k

@@ -1,25 +1,25 @@
 -- The places of the fields, written to the lent places one line after the other.
-use mathlib.Core.Bool.{Bool, true, false, not, _&&_}
-use mathlib.Core.Path.{_≡_, refl, sym, ap, _∙_, subst}
-use Prim.Native.Nat.{ℕ, suc, _+_, _-_, _*_, _≤_, _<_}
+use mathlib.Core.Bool.{_&&_}
+use mathlib.Core.Path.{_≡_, sym, ap, _∙_, subst}
+use mathlib.Core.List.{List, [], _∷_}
+use Prim.Native.Nat.{ℕ, _+_, _-_, _*_, _≤_, _<_}
 use native.Mathlib.Nat.{zero-add}
 use native.Mathlib.Omega.{arith}
 use native.Mathlib.Decide.{decLe}
-use mathlib.Core.List.{List, [], _∷_, _++_}
 use lib.Dec.{T}
 use lib.ListN.{length, take, drop, set, length-drop}
 use lib.Seq.{length-take-le}
-use Rattle.octets.specs.Lists.{text, every}
 use Rattle.octets.specs.Bytes.{token}
+use Rattle.octets.specs.Lists.{every}
 use Rattle.octets.proofs.Tests.{left, right}
-use Rattle.request.specs.Cutting.{begins, first-cut}
-use Rattle.request.specs.Places.{before-cut, part, is-some, is-field, lines-from, line-starts, colon-in, line-colons, Fillable, Filled}
+use Rattle.request.specs.Cutting.{begins}
+use Rattle.request.specs.Places.{part, is-some, is-field, lines-from, line-starts, colon-in, line-colons, Fillable, Filled}
 use Rattle.request.specs.Request.{paired}
 use Rattle.request.specs.Searching.{first, line-break}
 use Rattle.request.specs.Values.{trim-right}
-use Rattle.request.proofs.Search.{before-length}
-use Rattle.request.proofs.Lines.{line-here, line-next, line-past}
 use Rattle.request.proofs.Fields.{field-at, field-no-colon, field-named, some-holds, end-order, end-inside}
+use Rattle.request.proofs.Lines.{line-here, line-next, line-past}
+use Rattle.request.proofs.Search.{before-length}
 use Rattle.request.proofs.Writing.{Written, written-start, written-put, written-end, written-length}
 
 -- ---- one line

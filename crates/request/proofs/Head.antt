@@ -1,16 +1,16 @@
 -- The head: its bytes one after the other, and its lines by place.
 use mathlib.Core.Bool.{Bool, true, false, not, _&&_, _||_, Bool·beq, and-false, or-false, or-assoc}
 use mathlib.Core.Path.{_≡_, refl, sym, ap, _∙_, subst}
-use Prim.Native.Nat.{ℕ, suc, _+_, _≤_, _<_, zero-le}
+use mathlib.Core.List.{List, [], _∷_}
+use Prim.Native.Nat.{ℕ, _+_, _≤_, _<_, zero-le}
 use native.Mathlib.Numerals.{add-one}
 use native.Mathlib.Omega.{arith}
 use native.Mathlib.Decide.{decLe}
-use mathlib.Core.List.{List, [], _∷_}
 use lib.ListN.{length, getD, drop, drop-of-length-le}
-use lib.Dec.{T, leb, eqb}
+use lib.Dec.{T, eqb}
 use lib.Seq.{drop-cons}
-use borrow.Author.Tests.{eq-eqb, ne-eqb, le-leb, lt-leb, not-true, not-false, eqb-true}
-use Rattle.octets.specs.Lists.{every, pick}
+use borrow.Author.Tests.{ne-eqb, le-leb, lt-leb, not-true, not-false, eqb-true}
+use Rattle.octets.specs.Lists.{every}
 use Rattle.octets.proofs.Tests.{both, left, right, is-true, is-false, test-cases}
 use Rattle.request.specs.Request.{agree, head-byte, paired}
 

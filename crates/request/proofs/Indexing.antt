@@ -1,37 +1,35 @@
 -- One field of a request, from the lent places.
-use mathlib.Core.Bool.{Bool, true, false, not, _&&_}
+use mathlib.Core.Bool.{true, not}
 use mathlib.Core.Option.{Option, none, some}
 use mathlib.Core.Path.{_≡_, refl, sym, ap, _∙_, subst}
-use Prim.Native.Nat.{ℕ, zero, suc, _+_, _-_, _*_, _≤_, _<_, zero-le}
-use native.Mathlib.Nat.{add-zero, zero-add, le-of-suc-le-suc, not-suc-le-zero, min-le-right}
-use native.Mathlib.Numerals.{add-one}
+use mathlib.Core.List.{List, [], _∷_}
+use Prim.Native.Nat.{ℕ, zero, suc, _+_, _-_, _*_, _≤_, _<_}
+use native.Mathlib.Nat.{add-zero, le-of-suc-le-suc, not-suc-le-zero, min-le-right}
 use native.Mathlib.Omega.{arith}
 use native.Mathlib.Decide.{decLe}
-use mathlib.Core.List.{List, [], _∷_}
 use lib.Dec.{T, ltb}
 use lib.ListN.{length, getD, take, drop, length-drop, length-take}
 use lib.Seq.{drop-drop, getD-drop, getD-take, take-take, take-at, length-take-le}
-use borrow.Author.Tests.{lt-ltb, le-ltb, le-leb}
-use Rattle.octets.specs.Lists.{pick, every}
+use borrow.Author.Tests.{lt-ltb, le-ltb}
 use Rattle.octets.specs.Bytes.{token, white}
-use Rattle.octets.specs.Option.{_>>=_}
+use Rattle.octets.specs.Lists.{pick}
 use Rattle.octets.proofs.Tests.{left, T-of, is-true}
-use Rattle.request.specs.Cutting.{begins, first-cut}
-use Rattle.request.specs.Places.{head-of, before-cut, part, is-field, lines-from, field-lines, fields-start, line-starts, colon-in, line-colons, judged, reading, starts-of, colons-of, over, Read, parts-of, field-parts, Indexed}
-use Rattle.request.specs.Request.{Field, Request, paired, name-as-matched, field, all-fields, read-request}
+use Rattle.request.specs.Cutting.{begins}
+use Rattle.request.specs.Places.{head-of, part, lines-from, field-lines, fields-start, line-starts, colon-in, line-colons, judged, reading, starts-of, colons-of, Read, parts-of, field-parts, Indexed}
+use Rattle.request.specs.Request.{Field, Request, paired, name-as-matched, read-request}
 use Rattle.request.specs.Searching.{first, line-break}
 use Rattle.request.specs.Values.{trim-right, reduced, values-of}
 use Rattle.request.specs.declared.FieldParts.{FieldParts}
 use Rattle.request.specs.declared.Judged.the-variants.{Accepted}
-use Rattle.request.specs.declared.Reading.the-variants.{Unreadable, Readable}
-use Rattle.request.proofs.Search.{first-le, first-holds, begins-long, before-length}
-use Rattle.request.proofs.Lines.{line-here, line-next, line-past}
-use Rattle.request.proofs.Fields.{end-order, end-inside}
-use Rattle.request.proofs.Parts.{drop-take, length-part, part-front}
+use Rattle.request.specs.declared.Reading.the-variants.{Readable}
 use Rattle.request.proofs.Accepted.{Accepts, accepts}
 use Rattle.request.proofs.Answers.{fields-count, starts-length, colons-length}
-use Rattle.request.proofs.Trims.{trim-le, trim-front}
+use Rattle.request.proofs.Fields.{end-order, end-inside}
+use Rattle.request.proofs.Lines.{line-here, line-next, line-past}
 use Rattle.request.proofs.Nth.{Nth, nth, field-is, name-token, colon-in-line, token-long}
+use Rattle.request.proofs.Parts.{drop-take, length-part, part-front}
+use Rattle.request.proofs.Search.{first-le, first-holds, begins-long, before-length}
+use Rattle.request.proofs.Trims.{trim-le, trim-front}
 
 -- ---- the end of a field's line
 

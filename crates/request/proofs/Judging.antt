@@ -2,29 +2,29 @@
 use mathlib.Core.Bool.{Bool, true, false, not, _&&_}
 use mathlib.Core.Option.{Option, none, some}
 use mathlib.Core.Path.{_≡_, refl, sym, ap, _∙_, subst}
-use Prim.Native.Nat.{ℕ, zero, suc, _+_, _-_, _≤_, _<_}
-use native.Mathlib.Nat.{suc-add, zero-add, sub-zero}
-use native.Mathlib.Omega.{arith}
 use mathlib.Core.List.{List, [], _∷_}
-use lib.Dec.{T, leb, eqb}
+use Prim.Native.Nat.{ℕ, suc, _+_, _-_, _≤_, _<_}
+use native.Mathlib.Nat.{suc-add, sub-zero}
+use native.Mathlib.Omega.{arith}
+use lib.Dec.{T, eqb}
 use lib.ListN.{length, getD, take, drop}
 use lib.Seq.{length-take-le}
 use borrow.Author.Tests.{le-leb, lt-leb, eqb-false, ne-eqb, not-true, not-false}
-use Rattle.octets.specs.Lists.{every, pick}
 use Rattle.octets.specs.Bytes.{white}
+use Rattle.octets.specs.Lists.{every}
 use Rattle.octets.specs.Option.{_>>=_, holds}
 use Rattle.octets.proofs.Tests.{right, T-of}
 use Rattle.request.specs.Cutting.{Cut, begins, push, first-cut, cut-by}
 use Rattle.request.specs.Places.{before-cut, head-of, start-places, is-some, is-field, lines-from, first-line, fields-start, judged}
 use Rattle.request.specs.Request.{Field, Request, Start, head-byte, paired, head-lines, continues, whole-fields, start-line, field, all-fields, head, empty-line, read-request}
 use Rattle.request.specs.Searching.{first}
-use Rattle.request.specs.declared.StartLine.{StartLine}
-use Rattle.request.specs.declared.StartLine.the-variants.{Bad, Good}
 use Rattle.request.specs.declared.Judged.{Judged}
 use Rattle.request.specs.declared.Judged.the-variants.{Refused, Accepted}
+use Rattle.request.specs.declared.StartLine.{StartLine}
+use Rattle.request.specs.declared.StartLine.the-variants.{Bad, Good}
 use Rattle.request.proofs.Head.{Pairs, pairs-end, pairs-byte, pairs-fold, pairs, pairs-paired}
 use Rattle.request.proofs.Lines.{lines-byte, continues-at, from-suc, from-start}
-use Rattle.request.proofs.Search.{first-le, first-yes, first-no, cut-found, cut-missing, head-end}
+use Rattle.request.proofs.Search.{first-le, first-no, cut-found, cut-missing, head-end}
 
 -- ---- the start line and what follows it
 

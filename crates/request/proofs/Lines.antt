@@ -1,23 +1,23 @@
 -- The lines of the head by place: the field at a place with its folds, and the fields after it.
-use mathlib.Core.Bool.{Bool, true, false, not, _&&_}
+use mathlib.Core.Bool.{Bool, true, false, not}
 use mathlib.Core.Path.{_≡_, refl, sym, ap, _∙_, subst}
-use Prim.Native.Nat.{ℕ, zero, suc, _+_, _-_, _≤_, _<_, zero-le, suc-le-suc}
+use mathlib.Core.List.{List, [], _∷_}
+use Prim.Native.Nat.{ℕ, zero, suc, _+_, _-_, _≤_, _<_, zero-le}
 use native.Mathlib.Nat.{zero-add, suc-add, not-suc-le-zero, le-of-suc-le-suc}
 use native.Mathlib.Omega.{arith}
-use mathlib.Core.List.{List, [], _∷_, _++_}
 use lib.ListN.{length, getD, take, drop}
-use lib.Dec.{T, leb, eqb, leb·suc-suc}
+use lib.Dec.{T, eqb, leb·suc-suc}
 use lib.Seq.{drop-drop}
 use borrow.Author.Tests.{le-leb, lt-leb, ne-eqb, eqb-false}
-use Rattle.octets.specs.Lists.{pick, only, peek}
 use Rattle.octets.specs.Bytes.{white}
+use Rattle.octets.specs.Lists.{pick, only}
 use Rattle.octets.proofs.Tests.{test-cases}
-use Rattle.request.specs.Cutting.{begins, push, cut-by, cut-at}
+use Rattle.request.specs.Cutting.{push, cut-by, cut-at}
 use Rattle.request.specs.Places.{part, lines-from}
 use Rattle.request.specs.Request.{paired, head-lines, continues, attach, whole-fields}
 use Rattle.request.specs.Searching.{first, line-break}
-use Rattle.request.proofs.Search.{first-yes, first-no}
 use Rattle.request.proofs.Head.{Pairs, pairs-end, pairs-byte, pairs-fold, pairs, pairs-paired}
+use Rattle.request.proofs.Search.{first-yes, first-no}
 
 abbrev whole : List ℕ → List (List ℕ)
 whole h = whole-fields (head-lines h)

@@ -1,17 +1,17 @@
 -- The reduced value byte by byte: one pass instead of spaces, squeezed and trimmed at both ends.
-use mathlib.Core.Bool.{Bool, true, false, not, _&&_, _||_, or-false, or-assoc, and-false}
+use mathlib.Core.Bool.{Bool, true, false, _&&_, _||_, or-false, or-assoc}
 use mathlib.Core.Path.{_≡_, refl, sym, ap, _∙_, subst}
-use Prim.Native.Nat.{ℕ, suc, _+_, _≤_, _<_, zero-le, suc-le-suc}
+use mathlib.Core.List.{List, [], _∷_, _++_}
+use Prim.Native.Nat.{ℕ, suc, _+_, _≤_, _<_, zero-le}
 use native.Mathlib.Nat.{le-trans, le-of-eq}
 use native.Mathlib.Numerals.{add-one}
 use native.Mathlib.Omega.{arith}
-use mathlib.Core.List.{List, [], _∷_, _++_}
 use lib.ListN.{length, getD, drop, set, drop-of-length-le, length-set}
 use lib.Seq.{drop-cons}
 use lib.Dec.{eqb, ltb}
-use borrow.Author.Tests.{eq-eqb, ne-eqb, eqb-true, lt-ltb}
-use Rattle.octets.specs.Lists.{pick, some-of, empty, peek}
+use borrow.Author.Tests.{ne-eqb, eqb-true, lt-ltb}
 use Rattle.octets.specs.Bytes.{white}
+use Rattle.octets.specs.Lists.{pick, some-of, empty, peek}
 use Rattle.octets.proofs.Tests.{test-cases}
 use Rattle.request.specs.Places.{over}
 use Rattle.request.specs.Searching.{space}

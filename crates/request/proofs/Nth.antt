@@ -2,29 +2,23 @@
 use mathlib.Core.Bool.{Bool, true, false}
 use mathlib.Core.Option.{Option, none, some}
 use mathlib.Core.Path.{_≡_, refl, sym, ap, _∙_, subst}
-use Prim.Native.Nat.{ℕ, zero, suc, _+_, _-_, _≤_, _<_}
-use native.Mathlib.Nat.{zero-add, suc-add}
-use native.Mathlib.Numerals.{add-one}
-use native.Mathlib.Omega.{arith}
 use mathlib.Core.List.{List, [], _∷_}
+use Prim.Native.Nat.{ℕ, zero, suc, _+_, _<_}
+use native.Mathlib.Nat.{zero-add, suc-add}
+use native.Mathlib.Omega.{arith}
 use lib.Dec.{T}
-use lib.ListN.{length, take, drop, length-drop}
-use lib.Seq.{take-at, take-take, drop-drop, drop-nil}
+use lib.ListN.{length, take, drop}
+use lib.Seq.{drop-nil}
 use Rattle.octets.specs.Bytes.{token}
 use Rattle.octets.specs.Option.{_>>=_, holds}
-use Rattle.octets.proofs.Tests.{T-of}
 use Rattle.request.specs.Cutting.{begins}
-use Rattle.request.specs.Places.{head-of, part, is-some, is-field, lines-from, field-lines, fields-start, line-starts, colon-in, line-colons, reading, starts-of, colons-of, over, Read, parts-of, field-parts, Indexed}
-use Rattle.request.specs.Request.{Field, Request, name-as-matched, field, all-fields, read-request}
+use Rattle.request.specs.Places.{is-some, is-field, colon-in}
+use Rattle.request.specs.Request.{Field, field, all-fields}
 use Rattle.request.specs.Searching.{first}
-use Rattle.request.specs.Values.{trim-right, reduced, values-of}
-use Rattle.request.specs.declared.FieldParts.{FieldParts}
-use Rattle.request.specs.declared.Reading.the-variants.{Readable}
-use Rattle.request.proofs.Search.{before-length}
+use Rattle.request.specs.Values.{trim-right}
 use Rattle.request.proofs.Fields.{field-at, field-named}
 use Rattle.request.proofs.Filling.{colon-inside, name-there}
-use Rattle.request.proofs.Parts.{drop-take}
-use Rattle.request.proofs.Trims.{trim-front, trim-le}
+use Rattle.request.proofs.Search.{before-length}
 
 -- ---- the fields of the lines
 

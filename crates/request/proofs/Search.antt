@@ -2,18 +2,18 @@
 use mathlib.Core.Bool.{Bool, true, false, not, _&&_}
 use mathlib.Core.Option.{Option, none, some}
 use mathlib.Core.Path.{_≡_, refl, sym, ap, _∙_}
+use mathlib.Core.List.{List, [], _∷_}
 use Prim.Native.Nat.{ℕ, zero, suc, _+_, _≤_, _<_, zero-le, suc-le-suc}
 use native.Mathlib.Nat.{zero-add, suc-add, not-suc-le-zero}
 use native.Mathlib.Decide.{decLe}
 use native.Mathlib.Numerals.{add-one, add-one-le}
 use native.Mathlib.Omega.{arith}
-use mathlib.Core.List.{List, [], _∷_}
-use lib.ListN.{length, getD, take, drop, drop-of-length-le, length-drop}
+use lib.ListN.{length, getD, take, drop, drop-of-length-le}
 use lib.Dec.{eqb}
-use borrow.Author.Tests.{eq-eqb, ne-eqb}
 use lib.Seq.{drop-cons, getD-drop, length-take-le}
-use Rattle.octets.specs.Lists.{pick}
+use borrow.Author.Tests.{eq-eqb, ne-eqb}
 use Rattle.octets.specs.Bytes.{white}
+use Rattle.octets.specs.Lists.{pick}
 use Rattle.octets.specs.Option.{_>>=_}
 use Rattle.octets.proofs.Tests.{right, T-of, is-true}
 use Rattle.request.specs.Cutting.{Cut, begins, first-cut}

@@ -2,18 +2,18 @@
 use mathlib.Core.Bool.{Bool, true, false, not, _&&_, _||_, and-false}
 use mathlib.Core.Option.{Option, none, some}
 use mathlib.Core.Path.{_≡_, refl, sym, ap, _∙_}
+use mathlib.Core.List.{List, [], _∷_}
 use Prim.Native.Nat.{ℕ, suc, _+_, _-_, _≤_, _<_, zero-le}
 use native.Mathlib.Nat.{sub-zero, le-of-eq}
 use native.Mathlib.Numerals.{add-one}
 use native.Mathlib.Omega.{arith}
 use native.Mathlib.Decide.{decLe}
-use mathlib.Core.List.{List, [], _∷_}
 use lib.ListN.{length, getD, take, drop, drop-of-length-le, length-drop}
 use lib.Dec.{leb, eqb}
 use lib.Seq.{drop-cons, drop-drop, take-all, length-take-le}
 use borrow.Author.Tests.{not-true, not-false, ne-eqb, leb-true}
-use Rattle.octets.specs.Lists.{text, every, empty, pick}
 use Rattle.octets.specs.Bytes.{class-of, token, within, lowers, same-any-case}
+use Rattle.octets.specs.Lists.{text, every, empty, pick}
 use Rattle.octets.specs.Option.{_>>=_, holds}
 use Rattle.octets.proofs.Classes.{rules}
 use Rattle.octets.proofs.Equal.{lowers-length}

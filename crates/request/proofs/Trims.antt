@@ -1,16 +1,16 @@
 -- White space at the ends: the right end found from the end backwards, the left end from the start.
 use mathlib.Core.Bool.{Bool, true, false, not, _&&_, and-false}
 use mathlib.Core.Path.{_≡_, refl, sym, ap, _∙_}
-use Prim.Native.Nat.{ℕ, zero, suc, _+_, _-_, _≤_, _<_}
+use mathlib.Core.List.{List, [], _∷_}
+use Prim.Native.Nat.{ℕ, zero, suc, _-_, _≤_, _<_}
 use native.Mathlib.Nat.{not-suc-le-zero, le-of-suc-le-suc, le-of-eq, le-trans, min-le-right}
 use native.Mathlib.Omega.{arith}
-use mathlib.Core.List.{List, [], _∷_}
 use lib.ListN.{length, getD, take, length-take}
 use lib.Dec.{eqb}
-use lib.Seq.{length-take-le, take-all, take-length}
+use lib.Seq.{length-take-le, take-length}
 use borrow.Author.Tests.{not-true, not-false}
-use Rattle.octets.specs.Lists.{pick, empty}
 use Rattle.octets.specs.Bytes.{white, class-of}
+use Rattle.octets.specs.Lists.{pick, empty}
 use Rattle.octets.proofs.Classes.{rules}
 use Rattle.request.specs.Values.{trim-right}
 

@@ -1,17 +1,16 @@
 -- A value's pieces by place, and the names that are never cut.
-use mathlib.Core.Bool.{Bool, true, false, not, _&&_, _||_, or-false, or-assoc}
+use mathlib.Core.Bool.{Bool, true, false, not, _||_, or-false}
 use mathlib.Core.Path.{_≡_, refl, sym, ap, _∙_, subst}
-use Prim.Native.Nat.{ℕ, zero, suc, _+_, _-_, _≤_, _<_, zero-le}
+use mathlib.Core.List.{List, [], _∷_, map}
+use Prim.Native.Nat.{ℕ, suc, _+_, _-_, _≤_, _<_}
 use native.Mathlib.Numerals.{add-one, add-one-le}
 use native.Mathlib.Omega.{arith}
-use mathlib.Core.List.{List, [], _∷_, map}
 use lib.ListN.{length, getD, take, drop, drop-of-length-le, length-drop}
 use lib.Seq.{drop-cons, drop-drop, take-take}
-use lib.Dec.{leb, eqb}
-use borrow.Author.Tests.{eq-eqb, ne-eqb, eqb-true, le-leb}
-use Rattle.octets.specs.Lists.{text, pick}
+use lib.Dec.{eqb}
+use borrow.Author.Tests.{eq-eqb, ne-eqb, eqb-true}
 use Rattle.octets.specs.Bytes.{same-any-case, white}
-use Rattle.request.specs.Cutting.{cut-by}
+use Rattle.octets.specs.Lists.{text, pick}
 use Rattle.request.specs.Places.{part, first-line, mode-of, values-from, trimmed-at, piece-at}
 use Rattle.request.specs.Searching.{first, span, text-here}
 use Rattle.request.specs.Values.{Mode, plain, quoted, escaped, angle, step, cuts, trim-left, trim-right, trim, pieces, never-cut, values-of}
@@ -19,9 +18,9 @@ use Rattle.request.specs.declared.Piece.{Piece}
 use Rattle.request.specs.declared.Within.{Within}
 use Rattle.request.specs.declared.Within.the-variants.{Text, Quotes, Escape, Angles}
 use Rattle.request.proofs.Cuts.{pieces-from, span-yes, span-no, span-le, splits, piece-from, from-past, from-start}
-use Rattle.request.proofs.Search.{Came, came-next, came-found, came-end, first-le, first-yes, first-no}
-use Rattle.request.proofs.Trims.{trim-front, trim-le}
 use Rattle.request.proofs.Parts.{drop-take, length-part}
+use Rattle.request.proofs.Search.{Came, came-next, came-found, first-le, first-yes, first-no}
+use Rattle.request.proofs.Trims.{trim-front, trim-le}
 
 -- ---- names
 

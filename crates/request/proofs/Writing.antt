@@ -1,9 +1,9 @@
 -- Lent places that are filled from the front: n of the numbers to write are written over what stood there.
 use mathlib.Core.Path.{_≡_, refl, sym, ap, _∙_, subst}
-use Prim.Native.Nat.{ℕ, suc, _+_, _-_, _≤_, _<_, zero-le}
+use mathlib.Core.List.{List, [], _∷_, _++_, append-nil}
+use Prim.Native.Nat.{ℕ, suc, _+_, _≤_, _<_, zero-le}
 use native.Mathlib.Numerals.{add-one}
 use native.Mathlib.Omega.{arith}
-use mathlib.Core.List.{List, [], _∷_, _++_, append-nil}
 use lib.ListN.{length, getD, drop, set, drop-of-length-le, length-append, length-drop}
 use lib.Seq.{drop-cons, set-at, append-snoc}
 use Rattle.request.specs.Places.{over}

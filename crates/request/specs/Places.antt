@@ -2,28 +2,28 @@
 use mathlib.Core.Bool.{Bool, true, false, not, _&&_}
 use mathlib.Core.Option.{Option, none, some}
 use mathlib.Core.Path.{_≡_}
-use Prim.Native.Nat.{ℕ, _+_, _-_, _≤_, _<_}
 use mathlib.Core.List.{List, [], _∷_, _++_, map}
-use Rattle.octets.specs.Lists.{text, pick, every, empty}
-use Rattle.octets.specs.Bytes.{same-any-case, token, uri-byte}
-use Rattle.request.specs.Body.{Line, drop-cr, ended, lines}
-use Rattle.request.specs.Cutting.{Cut, first-cut, cut-by, cut-at}
+use Prim.Native.Nat.{ℕ, _+_, _-_, _≤_, _<_}
 use lib.ListN.{length, getD, take, drop}
 use lib.Dec.{T, leb, eqb}
+use Rattle.octets.specs.Bytes.{same-any-case, token, uri-byte}
+use Rattle.octets.specs.Lists.{text, pick, every, empty}
+use Rattle.request.specs.Body.{Line, drop-cr, ended, lines}
+use Rattle.request.specs.Cutting.{Cut, first-cut, cut-by, cut-at}
 use Rattle.request.specs.Request.{empty-line, paired, head-lines, Start, whole-fields, field, Request, read-request}
-use Rattle.request.specs.declared.StartLine.{StartLine}
-use Rattle.request.specs.declared.StartLine.the-variants.{Bad, Good}
-use Rattle.request.specs.declared.Judged.{Judged}
 use Rattle.request.specs.Values.{Mode, plain, quoted, escaped, angle, trim-left, trim-right, trim, pieces}
 use Rattle.request.specs.declared.BodyLine.{BodyLine}
 use Rattle.request.specs.declared.BodyLine.the-variants.{Typed, Other, Done}
 use Rattle.request.specs.declared.FieldParts.{FieldParts}
+use Rattle.request.specs.declared.Judged.{Judged}
+use Rattle.request.specs.declared.Judged.the-variants.{Refused, Accepted}
 use Rattle.request.specs.declared.Piece.{Piece}
-use Rattle.request.specs.declared.Within.{Within}
-use Rattle.request.specs.declared.Within.the-variants.{Text, Quotes, Escape, Angles}
 use Rattle.request.specs.declared.Reading.{Reading}
 use Rattle.request.specs.declared.Reading.the-variants.{Unreadable, Readable}
-use Rattle.request.specs.declared.Judged.the-variants.{Refused, Accepted}
+use Rattle.request.specs.declared.StartLine.{StartLine}
+use Rattle.request.specs.declared.StartLine.the-variants.{Bad, Good}
+use Rattle.request.specs.declared.Within.{Within}
+use Rattle.request.specs.declared.Within.the-variants.{Text, Quotes, Escape, Angles}
 
 -- what stands before a cut, or everything where there is none
 abbrev pub before-cut : List ℕ → Option Cut → List ℕ

@@ -1,11 +1,11 @@
 -- The searches that the loops over bytes are: how far it is to the first place where a test holds.
 use mathlib.Core.Bool.{Bool, not, _&&_, _||_}
-use Prim.Native.Nat.{ℕ, suc}
 use mathlib.Core.List.{List, [], _∷_}
+use Prim.Native.Nat.{ℕ, suc}
 use lib.ListN.{getD}
 use lib.Dec.{eqb}
-use Rattle.octets.specs.Lists.{pick, some-of}
 use Rattle.octets.specs.Bytes.{token-byte, uri-byte, white}
+use Rattle.octets.specs.Lists.{pick, some-of}
 use Rattle.request.specs.Cutting.{begins}
 
 -- how many bytes stand before the first place where the test holds of the rest; all of them where there is none

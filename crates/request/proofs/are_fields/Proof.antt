@@ -1,9 +1,9 @@
-use denote.Ref.{now}
 use Prim.Native.Nat.{_+_, _-_}
 use native.Mathlib.Omega.{arith}
 use lib.ListN.{length}
-use Rattle.request.proofs.Fields.{Checking, checking-first, checking-no, checking-next, checking-end, end-inside}
 use borrow.Author.Needs.{needs}
+use denote.Ref.{now}
+use Rattle.request.proofs.Fields.{Checking, checking-first, checking-no, checking-next, checking-end, end-inside}
 use Rattle.request.proofs.are_fields.Statement.{statement}
 use Rattle.request.proofs.are_fields.Tie as tie
 

@@ -1,10 +1,10 @@
-use Rattle.request.proofs.Values.{blanks-found, blanks-next}
 use Prim.Native.Nat.{_-_, zero-le}
 use native.Mathlib.Nat.{zero-add}
 use lib.ListN.{length}
+use borrow.Author.Needs.{needs}
 use Rattle.request.specs.Searching.{first, text-here}
 use Rattle.request.proofs.Search.{Came, came-end}
-use borrow.Author.Needs.{needs}
+use Rattle.request.proofs.Values.{blanks-found, blanks-next}
 use Rattle.request.proofs.blanks.Statement.{statement}
 use Rattle.request.proofs.blanks.Tie as tie
 

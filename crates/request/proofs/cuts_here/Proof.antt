@@ -1,5 +1,5 @@
-use Rattle.request.proofs.Values.{comma-cuts, quotes-protect, escape-protects, angles-protect}
 use borrow.Author.Needs.{needs}
+use Rattle.request.proofs.Values.{comma-cuts, quotes-protect, escape-protects, angles-protect}
 use Rattle.request.proofs.cuts_here.Statement.{statement}
 use Rattle.request.proofs.cuts_here.Tie as tie
 

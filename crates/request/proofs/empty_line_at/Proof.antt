@@ -1,5 +1,5 @@
-use Rattle.request.proofs.Search.{empty-no, empty-no-2, empty-no-3, empty-no-4, empty-yes}
 use borrow.Author.Needs.{needs}
+use Rattle.request.proofs.Search.{empty-no, empty-no-2, empty-no-3, empty-no-4, empty-yes}
 use Rattle.request.proofs.empty_line_at.Statement.{statement}
 use Rattle.request.proofs.empty_line_at.Tie as tie
 

@@ -1,7 +1,6 @@
-use Rattle.request.proofs.Indexing.{few, small}
 use native.Mathlib.Omega.{arith}
-use Rattle.request.proofs.Indexing.{starts-place, colons-place, starts-room, next-room, name-order, name-inside, stop-inside, parts-are}
 use borrow.Author.Needs.{needs}
+use Rattle.request.proofs.Indexing.{few, small, starts-place, colons-place, starts-room, next-room, name-order, name-inside, stop-inside, parts-are}
 use Rattle.request.proofs.field_at.Statement.{statement}
 use Rattle.request.proofs.field_at.Tie as tie
 

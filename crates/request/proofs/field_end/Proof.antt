@@ -1,6 +1,6 @@
 use native.Mathlib.Omega.{arith}
-use Rattle.request.proofs.Indexing.{end-by-next, end-by-head}
 use borrow.Author.Needs.{needs}
+use Rattle.request.proofs.Indexing.{end-by-next, end-by-head}
 use Rattle.request.proofs.field_end.Statement.{statement}
 use Rattle.request.proofs.field_end.Tie as tie
 

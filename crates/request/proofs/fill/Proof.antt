@@ -1,11 +1,10 @@
-use Rattle.request.proofs.Fields.{colon-small}
-use denote.Ref.{now}
 use Prim.Native.Nat.{_+_, _-_}
 use native.Mathlib.Omega.{arith}
 use lib.ListN.{length}
-use Rattle.request.proofs.Fields.{end-inside}
-use Rattle.request.proofs.Filling.{Filling, filling-first, starts-place, colons-place, filling-next, filling-starts, filling-colons, filling-end}
 use borrow.Author.Needs.{needs}
+use denote.Ref.{now}
+use Rattle.request.proofs.Fields.{colon-small, end-inside}
+use Rattle.request.proofs.Filling.{Filling, filling-first, starts-place, colons-place, filling-next, filling-starts, filling-colons, filling-end}
 use Rattle.request.proofs.fill.Statement.{statement}
 use Rattle.request.proofs.fill.Tie as tie
 

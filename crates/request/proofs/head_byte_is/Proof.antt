@@ -1,5 +1,4 @@
 use Rattle.request.proofs.Head.{low-byte, high-byte}
-use borrow.Author.Needs.{needs}
 use Rattle.request.proofs.head_byte_is.Statement.{statement}
 use Rattle.request.proofs.head_byte_is.Tie as tie
 

@@ -1,9 +1,7 @@
-use Rattle.request.proofs.Head.{judging-pair, judging-next, judging-end}
-use Rattle.request.proofs.Head.{judging-byte}
 use Prim.Native.Nat.{_-_}
 use lib.ListN.{length}
-use Rattle.request.proofs.Head.{Judging, judging-first}
 use borrow.Author.Needs.{needs}
+use Rattle.request.proofs.Head.{judging-pair, judging-next, judging-end, judging-byte, Judging, judging-first}
 use Rattle.request.proofs.head_bytes_right.Statement.{statement}
 use Rattle.request.proofs.head_bytes_right.Tie as tie
 

@@ -2,11 +2,11 @@ use mathlib.Core.Path.{sym, _∙_}
 use Prim.Native.Nat.{_-_, zero-le}
 use native.Mathlib.Nat.{zero-add}
 use lib.ListN.{length}
+use borrow.Author.Needs.{needs}
 use Rattle.request.specs.Cutting.{begins}
 use Rattle.request.specs.Places.{head-of}
 use Rattle.request.specs.Request.{empty-line}
 use Rattle.request.proofs.Search.{Came, came-next, came-found, came-end, head-end}
-use borrow.Author.Needs.{needs}
 use Rattle.request.proofs.head_end.Statement.{statement}
 use Rattle.request.proofs.head_end.Tie as tie
 

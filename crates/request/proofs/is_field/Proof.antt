@@ -1,5 +1,5 @@
-use Rattle.request.proofs.Fields.{field-no-colon, field-is, name-inside}
 use borrow.Author.Needs.{needs}
+use Rattle.request.proofs.Fields.{field-no-colon, field-is, name-inside}
 use Rattle.request.proofs.is_field.Statement.{statement}
 use Rattle.request.proofs.is_field.Tie as tie
 

@@ -1,5 +1,4 @@
 use Rattle.request.proofs.Norm.{space-high, space-low}
-use borrow.Author.Needs.{needs}
 use Rattle.request.proofs.is_space.Statement.{statement}
 use Rattle.request.proofs.is_space.Tie as tie
 

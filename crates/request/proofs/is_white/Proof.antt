@@ -1,5 +1,5 @@
-use Rattle.request.proofs.Trims.{white-class}
 use borrow.Author.Needs.{needs}
+use Rattle.request.proofs.Trims.{white-class}
 use Rattle.request.proofs.is_white.Statement.{statement}
 use Rattle.request.proofs.is_white.Tie as tie
 

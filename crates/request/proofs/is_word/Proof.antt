@@ -1,7 +1,7 @@
 use Prim.Native.Nat.{_-_}
 use lib.ListN.{length}
-use Rattle.request.proofs.StartParts.{Word, word-none, word-first, word-no, word-next, word-end}
 use borrow.Author.Needs.{needs}
+use Rattle.request.proofs.StartParts.{Word, word-none, word-first, word-no, word-next, word-end}
 use Rattle.request.proofs.is_word.Statement.{statement}
 use Rattle.request.proofs.is_word.Tie as tie
 

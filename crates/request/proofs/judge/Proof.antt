@@ -1,6 +1,5 @@
-use Rattle.request.proofs.Judging.{front-short}
-use Rattle.request.proofs.Judging.{judge-long, judge-endless, judge-bytes, front-paired, judge-lines}
 use borrow.Author.Needs.{needs}
+use Rattle.request.proofs.Judging.{front-short, judge-long, judge-endless, judge-bytes, front-paired, judge-lines}
 use Rattle.request.proofs.judge.Statement.{statement}
 use Rattle.request.proofs.judge.Tie as tie
 

@@ -1,7 +1,7 @@
-use denote.Ref.{now}
 use native.Mathlib.Omega.{arith}
-use Rattle.request.proofs.Judging.{n-inside, rest-paired, lines-fold, lines-bad, lines-wrong, lines-right}
 use borrow.Author.Needs.{needs}
+use denote.Ref.{now}
+use Rattle.request.proofs.Judging.{n-inside, rest-paired, lines-fold, lines-bad, lines-wrong, lines-right}
 use Rattle.request.proofs.judge_lines.Statement.{statement}
 use Rattle.request.proofs.judge_lines.Tie as tie
 

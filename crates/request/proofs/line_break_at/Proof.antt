@@ -1,5 +1,5 @@
-use Rattle.request.proofs.Search.{break-no-cr, break-no-lf, break-fold, break-yes}
 use borrow.Author.Needs.{needs}
+use Rattle.request.proofs.Search.{break-no-cr, break-no-lf, break-fold, break-yes}
 use Rattle.request.proofs.line_break_at.Statement.{statement}
 use Rattle.request.proofs.line_break_at.Tie as tie
 

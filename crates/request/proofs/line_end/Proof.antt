@@ -1,9 +1,9 @@
 use mathlib.Core.Path.{refl, sym, _∙_}
 use Prim.Native.Nat.{_+_, _-_}
 use lib.ListN.{length, drop}
+use borrow.Author.Needs.{needs}
 use Rattle.request.specs.Searching.{first, line-break}
 use Rattle.request.proofs.Search.{Came, came-next, came-found, came-end}
-use borrow.Author.Needs.{needs}
 use Rattle.request.proofs.line_end.Statement.{statement}
 use Rattle.request.proofs.line_end.Tie as tie
 

@@ -1,5 +1,5 @@
-use Rattle.request.proofs.BodyLines.{stop-end, stop-empty, stop-cr, stop-text}
 use borrow.Author.Needs.{needs}
+use Rattle.request.proofs.BodyLines.{stop-end, stop-empty, stop-cr, stop-text}
 use Rattle.request.proofs.line_stop.Statement.{statement}
 use Rattle.request.proofs.line_stop.Tie as tie
 

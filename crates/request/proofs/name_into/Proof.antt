@@ -1,7 +1,7 @@
 use Prim.Native.Nat.{_-_}
 use lib.ListN.{length}
-use Rattle.request.proofs.Writing.{Copying, copying-first, copying-place, copying-next, copying-length, copying-count, copying-end}
 use borrow.Author.Needs.{needs}
+use Rattle.request.proofs.Writing.{Copying, copying-first, copying-place, copying-next, copying-length, copying-count, copying-end}
 use Rattle.request.proofs.name_into.Statement.{statement}
 use Rattle.request.proofs.name_into.Tie as tie
 

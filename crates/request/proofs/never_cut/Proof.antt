@@ -1,5 +1,5 @@
-use Rattle.request.proofs.Values.{never-any}
 use borrow.Author.Needs.{needs}
+use Rattle.request.proofs.Values.{never-any}
 use Rattle.request.proofs.never_cut.Statement.{statement}
 use Rattle.request.proofs.never_cut.Tie as tie
 

@@ -1,7 +1,7 @@
-use denote.Ref.{now}
 use native.Mathlib.Omega.{arith}
-use Rattle.request.proofs.BodyLines.{line-past, lf-order, lf-inside, second-inside, next-short, next-other, next-typed}
 use borrow.Author.Needs.{needs}
+use denote.Ref.{now}
+use Rattle.request.proofs.BodyLines.{line-past, lf-order, lf-inside, second-inside, next-short, next-other, next-typed}
 use Rattle.request.proofs.next_line.Statement.{statement}
 use Rattle.request.proofs.next_line.Tie as tie
 

@@ -1,7 +1,7 @@
-use denote.Ref.{now}
 use native.Mathlib.Omega.{arith}
-use Rattle.request.proofs.Values.{piece-inside, trimmed-le, blanks-le, piece-is}
 use borrow.Author.Needs.{needs}
+use denote.Ref.{now}
+use Rattle.request.proofs.Values.{piece-inside, trimmed-le, blanks-le, piece-is}
 use Rattle.request.proofs.next_value.Statement.{statement}
 use Rattle.request.proofs.next_value.Tie as tie
 

@@ -1,5 +1,5 @@
-use Rattle.request.proofs.Values.{text-quote, text-angle, quotes-escape, quotes-close, angles-close, text-stays, quotes-stay, escape-ends, angles-stay}
 use borrow.Author.Needs.{needs}
+use Rattle.request.proofs.Values.{text-quote, text-angle, quotes-escape, quotes-close, angles-close, text-stays, quotes-stay, escape-ends, angles-stay}
 use Rattle.request.proofs.next_within.Statement.{statement}
 use Rattle.request.proofs.next_within.Tie as tie
 

@@ -1,7 +1,7 @@
 use Prim.Native.Nat.{_-_}
 use lib.ListN.{length}
-use Rattle.request.proofs.Norm.{Reducing, reducing-first, reducing-space, place-inside, next-inside, reducing-gap, reducing-text, reducing-length, reducing-count, reducing-end}
 use borrow.Author.Needs.{needs}
+use Rattle.request.proofs.Norm.{Reducing, reducing-first, reducing-space, place-inside, next-inside, reducing-gap, reducing-text, reducing-length, reducing-count, reducing-end}
 use Rattle.request.proofs.normalise.Statement.{statement}
 use Rattle.request.proofs.normalise.Tie as tie
 

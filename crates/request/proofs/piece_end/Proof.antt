@@ -1,9 +1,9 @@
-use Rattle.request.proofs.Values.{Spanning, spanning-first, spanning-found, spanning-next, spanning-end}
 use Prim.Native.Nat.{_+_, _-_}
 use lib.ListN.{length, drop}
+use borrow.Author.Needs.{needs}
 use Rattle.request.specs.Searching.{span}
 use Rattle.request.specs.Values.{plain, step, cuts}
-use borrow.Author.Needs.{needs}
+use Rattle.request.proofs.Values.{Spanning, spanning-first, spanning-found, spanning-next, spanning-end}
 use Rattle.request.proofs.piece_end.Statement.{statement}
 use Rattle.request.proofs.piece_end.Tie as tie
 

@@ -2,10 +2,10 @@ use mathlib.Core.Path.{refl}
 use mathlib.Core.List.{_∷_, []}
 use Prim.Native.Nat.{_+_, _-_}
 use lib.ListN.{length, drop}
+use borrow.Author.Needs.{needs}
 use Rattle.request.specs.Cutting.{begins}
 use Rattle.request.specs.Searching.{first}
 use Rattle.request.proofs.Search.{Came, came-end, place-found, place-next}
-use borrow.Author.Needs.{needs}
 use Rattle.request.proofs.place_of.Statement.{statement}
 use Rattle.request.proofs.place_of.Tie as tie
 

@@ -1,5 +1,5 @@
-use Rattle.request.proofs.Answers.{head-inside, fillable, read-refused, read-accepted}
 use borrow.Author.Needs.{needs}
+use Rattle.request.proofs.Answers.{head-inside, fillable, read-refused, read-accepted}
 use Rattle.request.proofs.read.Statement.{statement}
 use Rattle.request.proofs.read.Tie as tie
 

@@ -1,5 +1,5 @@
-use Rattle.request.proofs.StartParts.{start-no-sp, start-one-sp, start-right, start-wrong}
 use borrow.Author.Needs.{needs}
+use Rattle.request.proofs.StartParts.{start-no-sp, start-one-sp, start-right, start-wrong}
 use Rattle.request.proofs.start_line.Statement.{statement}
 use Rattle.request.proofs.start_line.Tie as tie
 

@@ -1,5 +1,5 @@
-use Rattle.request.proofs.StartParts.{parts-no-method, parts-no-uri, parts-version}
 use borrow.Author.Needs.{needs}
+use Rattle.request.proofs.StartParts.{parts-no-method, parts-no-uri, parts-version}
 use Rattle.request.proofs.start_parts_right.Statement.{statement}
 use Rattle.request.proofs.start_parts_right.Tie as tie
 

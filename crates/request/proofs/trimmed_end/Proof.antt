@@ -1,5 +1,5 @@
-use Rattle.request.proofs.Trims.{Back, back-start, back-next, back-found, back-end}
 use borrow.Author.Needs.{needs}
+use Rattle.request.proofs.Trims.{Back, back-start, back-next, back-found, back-end}
 use Rattle.request.proofs.trimmed_end.Statement.{statement}
 use Rattle.request.proofs.trimmed_end.Tie as tie
 

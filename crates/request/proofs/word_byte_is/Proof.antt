@@ -1,5 +1,5 @@
-use Rattle.request.proofs.StartParts.{uri-word, token-word}
 use borrow.Author.Needs.{needs}
+use Rattle.request.proofs.StartParts.{uri-word, token-word}
 use Rattle.request.proofs.word_byte_is.Statement.{statement}
 use Rattle.request.proofs.word_byte_is.Tie as tie
 
