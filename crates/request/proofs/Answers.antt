@@ -9,8 +9,9 @@ use lib.ListN.{length, take, drop}
 use lib.Seq.{length-take-le}
 use Rattle.octets.specs.Option.{_>>=_}
 use Rattle.octets.proofs.Tests.{T-of}
-use Rattle.request.specs.Places.{head-of, is-some, lines-from, field-lines, fields-start, judged, line-starts, line-colons, Fillable, Filled, reading, starts-of, colons-of, over, Read}
+use Rattle.request.specs.Places.{head-of, field-lines, fields-start, line-starts, line-colons, reading, starts-of, colons-of, over, Read}
 use Rattle.request.specs.Request.{Field, Request, field, all-fields, read-request}
+use Rattle.request.specs.Steps.{is-some, lines-from, judged, Fillable, Filled}
 use Rattle.request.specs.declared.Judged.{Judged}
 use Rattle.request.specs.declared.Judged.the-variants.{Refused, Accepted}
 use Rattle.request.specs.declared.Reading.the-variants.{Unreadable, Readable}

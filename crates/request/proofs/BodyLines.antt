@@ -14,8 +14,9 @@ use Rattle.octets.specs.Lists.{pick, empty}
 use Rattle.octets.proofs.Tests.{test-cases}
 use Rattle.request.specs.Body.{Line, drop-cr, ended, line, lines, session-lines}
 use Rattle.request.specs.Cutting.{begins, cut-at}
-use Rattle.request.specs.Places.{part, first-line, ended-line, line-places, body-line, session-from}
+use Rattle.request.specs.Places.{part, first-line, line-places, body-line, session-from}
 use Rattle.request.specs.Searching.{first}
+use Rattle.request.specs.Steps.{ended-line}
 use Rattle.request.specs.declared.BodyLine.{BodyLine}
 use Rattle.request.specs.declared.BodyLine.the-variants.{Typed, Other, Done}
 use Rattle.request.proofs.Cuts.{cut-on, cut-last, nonempty}

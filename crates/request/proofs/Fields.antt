@@ -14,9 +14,10 @@ use Rattle.octets.specs.Bytes.{token}
 use Rattle.octets.specs.Lists.{every, empty}
 use Rattle.octets.specs.Option.{_>>=_, holds}
 use Rattle.request.specs.Cutting.{Cut, begins}
-use Rattle.request.specs.Places.{part, is-some, is-field, lines-from}
+use Rattle.request.specs.Places.{part}
 use Rattle.request.specs.Request.{Field, paired, name-as-matched, field}
 use Rattle.request.specs.Searching.{first, line-break, word-byte}
+use Rattle.request.specs.Steps.{is-some, is-field, lines-from}
 use Rattle.request.specs.Values.{trim-right, reduced, values-of}
 use Rattle.request.proofs.Lines.{line-here, line-next, line-past}
 use Rattle.request.proofs.Search.{first-le, cut-found, cut-missing}

@@ -13,9 +13,10 @@ use Rattle.octets.specs.Bytes.{token}
 use Rattle.octets.specs.Lists.{every}
 use Rattle.octets.proofs.Tests.{left, right}
 use Rattle.request.specs.Cutting.{begins}
-use Rattle.request.specs.Places.{part, is-some, is-field, lines-from, line-starts, colon-in, line-colons, Fillable, Filled}
+use Rattle.request.specs.Places.{part, line-starts, colon-in, line-colons}
 use Rattle.request.specs.Request.{paired}
 use Rattle.request.specs.Searching.{first, line-break}
+use Rattle.request.specs.Steps.{is-some, is-field, lines-from, Fillable, Filled}
 use Rattle.request.specs.Values.{trim-right}
 use Rattle.request.proofs.Fields.{field-at, field-no-colon, field-named, some-holds, end-order, end-inside}
 use Rattle.request.proofs.Lines.{line-here, line-next, line-past}

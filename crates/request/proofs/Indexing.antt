@@ -15,9 +15,10 @@ use Rattle.octets.specs.Bytes.{token, white}
 use Rattle.octets.specs.Lists.{pick}
 use Rattle.octets.proofs.Tests.{left, T-of, is-true}
 use Rattle.request.specs.Cutting.{begins}
-use Rattle.request.specs.Places.{head-of, part, lines-from, field-lines, fields-start, line-starts, colon-in, line-colons, judged, reading, starts-of, colons-of, Read, parts-of, field-parts, Indexed}
+use Rattle.request.specs.Places.{head-of, part, field-lines, fields-start, line-starts, colon-in, line-colons, reading, starts-of, colons-of, Read, parts-of, field-parts, Indexed}
 use Rattle.request.specs.Request.{Field, Request, paired, name-as-matched, read-request}
 use Rattle.request.specs.Searching.{first, line-break}
+use Rattle.request.specs.Steps.{lines-from, judged}
 use Rattle.request.specs.Values.{trim-right, reduced, values-of}
 use Rattle.request.specs.declared.FieldParts.{FieldParts}
 use Rattle.request.specs.declared.Judged.the-variants.{Accepted}

@@ -15,9 +15,10 @@ use Rattle.octets.specs.Lists.{every}
 use Rattle.octets.specs.Option.{_>>=_, holds}
 use Rattle.octets.proofs.Tests.{right, T-of}
 use Rattle.request.specs.Cutting.{Cut, begins, push, first-cut, cut-by}
-use Rattle.request.specs.Places.{before-cut, head-of, start-places, is-some, is-field, lines-from, first-line, fields-start, judged}
+use Rattle.request.specs.Places.{before-cut, head-of, first-line, fields-start}
 use Rattle.request.specs.Request.{Field, Request, Start, head-byte, paired, head-lines, continues, whole-fields, start-line, field, all-fields, head, empty-line, read-request}
 use Rattle.request.specs.Searching.{first}
+use Rattle.request.specs.Steps.{start-places, is-some, is-field, lines-from, judged}
 use Rattle.request.specs.declared.Judged.{Judged}
 use Rattle.request.specs.declared.Judged.the-variants.{Refused, Accepted}
 use Rattle.request.specs.declared.StartLine.{StartLine}

@@ -13,9 +13,10 @@ use Rattle.octets.specs.Bytes.{white}
 use Rattle.octets.specs.Lists.{pick, only}
 use Rattle.octets.proofs.Tests.{test-cases}
 use Rattle.request.specs.Cutting.{push, cut-by, cut-at}
-use Rattle.request.specs.Places.{part, lines-from}
+use Rattle.request.specs.Places.{part}
 use Rattle.request.specs.Request.{paired, head-lines, continues, attach, whole-fields}
 use Rattle.request.specs.Searching.{first, line-break}
+use Rattle.request.specs.Steps.{lines-from}
 use Rattle.request.proofs.Head.{Pairs, pairs-end, pairs-byte, pairs-fold, pairs, pairs-paired}
 use Rattle.request.proofs.Search.{first-yes, first-no}
 

@@ -12,9 +12,10 @@ use lib.Seq.{drop-nil}
 use Rattle.octets.specs.Bytes.{token}
 use Rattle.octets.specs.Option.{_>>=_, holds}
 use Rattle.request.specs.Cutting.{begins}
-use Rattle.request.specs.Places.{is-some, is-field, colon-in}
+use Rattle.request.specs.Places.{colon-in}
 use Rattle.request.specs.Request.{Field, field, all-fields}
 use Rattle.request.specs.Searching.{first}
+use Rattle.request.specs.Steps.{is-some, is-field}
 use Rattle.request.specs.Values.{trim-right}
 use Rattle.request.proofs.Fields.{field-at, field-named}
 use Rattle.request.proofs.Filling.{colon-inside, name-there}

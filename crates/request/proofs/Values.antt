@@ -11,8 +11,9 @@ use lib.Dec.{eqb}
 use borrow.Author.Tests.{eq-eqb, ne-eqb, eqb-true}
 use Rattle.octets.specs.Bytes.{same-any-case, white}
 use Rattle.octets.specs.Lists.{text, pick}
-use Rattle.request.specs.Places.{part, first-line, mode-of, values-from, trimmed-at, piece-at}
+use Rattle.request.specs.Places.{part, first-line, values-from, trimmed-at, piece-at}
 use Rattle.request.specs.Searching.{first, span, text-here}
+use Rattle.request.specs.Steps.{mode-of}
 use Rattle.request.specs.Values.{Mode, plain, quoted, escaped, angle, step, cuts, trim-left, trim-right, trim, pieces, never-cut, values-of}
 use Rattle.request.specs.declared.Piece.{Piece}
 use Rattle.request.specs.declared.Within.{Within}

@@ -4,4 +4,5 @@ pub mod Examples
 pub mod Places
 pub mod Request
 pub mod Searching
+pub mod Steps
 pub mod Values

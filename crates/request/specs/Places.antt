@@ -1,29 +1,21 @@
 -- Where the parts of a request stand in its bytes. Every place is a sum of lengths of what the definitions cut the bytes into.
-use mathlib.Core.Bool.{Bool, true, false, not, _&&_}
 use mathlib.Core.Option.{Option, none, some}
 use mathlib.Core.Path.{_≡_}
 use mathlib.Core.List.{List, [], _∷_, _++_, map}
-use Prim.Native.Nat.{ℕ, _+_, _-_, _≤_, _<_}
+use Prim.Native.Nat.{ℕ, _+_, _-_, _<_}
 use lib.ListN.{length, getD, take, drop}
-use lib.Dec.{T, leb, eqb}
-use Rattle.octets.specs.Bytes.{same-any-case, token, uri-byte}
-use Rattle.octets.specs.Lists.{text, pick, every, empty}
-use Rattle.request.specs.Body.{Line, drop-cr, ended, lines}
+use lib.Dec.{leb, eqb}
+use Rattle.octets.specs.Lists.{text, pick}
+use Rattle.request.specs.Body.{Line, ended, lines}
 use Rattle.request.specs.Cutting.{Cut, first-cut, cut-by, cut-at}
-use Rattle.request.specs.Request.{empty-line, paired, head-lines, Start, whole-fields, field, Request, read-request}
-use Rattle.request.specs.Values.{Mode, plain, quoted, escaped, angle, trim-left, trim-right, trim, pieces}
+use Rattle.request.specs.Request.{empty-line, head-lines, whole-fields, Request, read-request}
+use Rattle.request.specs.Values.{trim-left, trim-right, trim, pieces}
 use Rattle.request.specs.declared.BodyLine.{BodyLine}
 use Rattle.request.specs.declared.BodyLine.the-variants.{Typed, Other, Done}
 use Rattle.request.specs.declared.FieldParts.{FieldParts}
-use Rattle.request.specs.declared.Judged.{Judged}
-use Rattle.request.specs.declared.Judged.the-variants.{Refused, Accepted}
 use Rattle.request.specs.declared.Piece.{Piece}
 use Rattle.request.specs.declared.Reading.{Reading}
 use Rattle.request.specs.declared.Reading.the-variants.{Unreadable, Readable}
-use Rattle.request.specs.declared.StartLine.{StartLine}
-use Rattle.request.specs.declared.StartLine.the-variants.{Bad, Good}
-use Rattle.request.specs.declared.Within.{Within}
-use Rattle.request.specs.declared.Within.the-variants.{Text, Quotes, Escape, Angles}
 
 -- what stands before a cut, or everything where there is none
 abbrev pub before-cut : List ℕ → Option Cut → List ℕ
@@ -38,29 +30,6 @@ head-of s = before-cut s (first-cut empty-line s)
 -- the bytes from a to e
 abbrev pub part : List ℕ → ℕ → ℕ → List ℕ
 part s a e = take (e - a) (drop a s)
-
--- what `three` asks of the three parts of a start line
-abbrev pub parts-right : List ℕ → List ℕ → List ℕ → Bool
-parts-right m u v = token m && not (empty u) && every uri-byte u && same-any-case v (text "SIP/2.0")
-
--- where the method and the URI of a start line end
-abbrev pub start-places : Option Start → StartLine
-start-places none = Bad
-start-places (some t) = Good (length (t .method)) (length (t .method) + 1 + length (t .uri))
-
--- something was read
-abbrev pub is-some {ℓ} : {A : Type ℓ} → Option A → Bool
-is-some none = false
-is-some (some a) = true
-
--- a line with its folds that is a field
-abbrev pub is-field : List ℕ → Bool
-is-field l = is-some (field l)
-
--- the fields with their folds, from a place in the head on; none past its end
-unfoldable pub lines-from : List ℕ → ℕ → List (List ℕ)
-unfolding cut-by whole-fields
-lines-from h p = pick (leb p (length h)) (whole-fields (head-lines (drop p h))) []
 
 -- the first line, and those after it
 abbrev pub first-line : List (List ℕ) → List ℕ
@@ -80,11 +49,6 @@ field-lines h = whole-fields (later-lines (head-lines h))
 abbrev pub fields-start : List ℕ → ℕ
 fields-start h = length (first-line (head-lines h)) + 2
 
--- where the parts of a request with this head end, and where its fields start
-abbrev pub judged : List ℕ → Option Request → Judged
-judged h none = Refused
-judged h (some q) = Accepted (length h) (length (q .method)) (length (q .method) + 1 + length (q .uri)) (fields-start h)
-
 -- ---- fields
 
 -- where each line starts, from a place on: each takes its bytes and a CR LF
@@ -102,21 +66,6 @@ unfoldable pub line-colons : ℕ → List (List ℕ) → List ℕ
 unfolding colon-in
 line-colons at [] = []
 line-colons at (l ∷ ls) = (at + colon-in l) ∷ line-colons (at + length l + 2) ls
-
--- the lines from a place in the head on are fields, and there is room for a number of each: one takes at least four bytes of 65,535
-pub record Fillable (h : List ℕ) (from room room′ : ℕ) : Type 0 where
-  pub inside : from ≤ length h + 2
-  pub short : length h ≤ 65535
-  pub pairs : T (paired 0 (drop from h))
-  pub fields : T (every is-field (lines-from h from))
-  pub starts-room : 16384 ≤ room
-  pub colons-room : 16384 ≤ room′
-
--- their places are written, first to last, and the rest of the lent places kept
-pub record Filled (h : List ℕ) (from : ℕ) (starts colons starts′ colons′ : List ℕ) (n : ℕ) : Type 0 where
-  pub count : n ≡ length (lines-from h from)
-  pub starts-are : starts′ ≡ line-starts from (lines-from h from) ++ drop n starts
-  pub colons-are : colons′ ≡ line-colons from (lines-from h from) ++ drop n colons
 
 -- ---- the answer of reading
 
@@ -170,13 +119,6 @@ pub record Indexed (s starts colons : List ℕ) (head fields i : ℕ) : Type 0 w
 
 -- ---- values
 
--- where a byte stands, in the code's words
-abbrev pub mode-of : Within → Mode
-mode-of Text = plain
-mode-of Quotes = quoted
-mode-of Escape = escaped
-mode-of Angles = angle
-
 -- the values of a reduced value from a place on; none past its end
 unfoldable pub values-from : List ℕ → ℕ → List (List ℕ)
 unfolding cut-by trim-left trim-right
@@ -192,10 +134,6 @@ unfolding cut-by trim-left trim-right
 piece-at v p = trimmed-at p (first-line (pieces (drop p v)))
 
 -- ---- lines of a body
-
--- a line without the CR before its LF, if an LF ends it
-abbrev pub ended-line : Bool → List ℕ → List ℕ
-ended-line at-lf l = pick at-lf (drop-cr l) l
 
 -- the places of a line l at p that is a field, as `line` has it
 abbrev pub line-places : ℕ → List ℕ → ℕ → BodyLine

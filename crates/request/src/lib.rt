@@ -8,9 +8,10 @@ ghost use lib.ListN.{length, getD, take, drop};
 ghost use Rattle.octets.specs.Bytes.{white};
 ghost use Rattle.octets.specs.Lists.{every, empty, pick};
 ghost use Rattle.request.specs.Cutting.{begins};
-ghost use Rattle.request.specs.Places.{head-of, part, parts-right, start-places, is-field, lines-from, judged, Fillable, Filled, over, Read, field-parts, Indexed, mode-of, piece-at, ended-line, body-line};
+ghost use Rattle.request.specs.Places.{head-of, part, over, Read, field-parts, Indexed, piece-at, body-line};
 ghost use Rattle.request.specs.Request.{empty-line, head-byte, paired, head-lines, start-line, name-as-matched, head, read-request};
 ghost use Rattle.request.specs.Searching.{first, span, line-break, text-here, word-byte, space};
+ghost use Rattle.request.specs.Steps.{parts-right, start-places, is-field, lines-from, judged, Fillable, Filled, mode-of, ended-line};
 ghost use Rattle.request.specs.Values.{plain, step, cuts, trim-right, reduced, never-cut};
 
 // Whether CR LF CR LF stands at i.
