@@ -1,0 +1,224 @@
+-- Laws of `first`: what a loop that looks at one place after the other keeps, over any test, and what a cut at a mark is.
+use mathlib.Core.Bool.{Bool, true, false, not, _&&_}
+use mathlib.Core.Option.{Option, none, some}
+use mathlib.Core.Path.{_≡_, refl, sym, ap, _∙_}
+use mathlib.Core.List.{List, [], _∷_}
+use Prim.Native.Nat.{ℕ, zero, suc, _+_, _≤_, _<_, zero-le, suc-le-suc}
+use native.Mathlib.Nat.{zero-add, suc-add, not-suc-le-zero}
+use native.Mathlib.Decide.{decLe}
+use native.Mathlib.Numerals.{add-one, add-one-le}
+use native.Mathlib.Omega.{arith}
+use lib.ListN.{length, getD, take, drop, drop-of-length-le}
+use lib.Dec.{eqb}
+use lib.Seq.{drop-cons, getD-drop, length-take-le}
+use borrow.Author.Tests.{eq-eqb, ne-eqb}
+use Rattle.octets.specs.Bytes.{white}
+use Rattle.octets.specs.Lists.{pick}
+use Rattle.octets.specs.Option.{_>>=_}
+use Rattle.octets.proofs.Tests.{right, T-of, is-true}
+use Rattle.request.specs.Cutting.{Cut, begins, first-cut}
+use Rattle.request.specs.Places.{before-cut, head-of}
+use Rattle.request.specs.Request.{empty-line}
+use Rattle.request.specs.Searching.{first, line-break}
+
+module _ (p : List ℕ → Bool) where
+  pub first-no : (b : ℕ) (s : List ℕ) → p (b ∷ s) ≡ false → first p (b ∷ s) ≡ suc (first p s)
+  unfolding first
+  first-no b s h = rw (h, first)
+
+  pub first-yes : (b : ℕ) (s : List ℕ) → p (b ∷ s) ≡ true → first p (b ∷ s) ≡ 0
+  unfolding first
+  first-yes b s h = rw (h, first)
+
+  -- the search has come to i; t is the place that it will find
+  pub record Came (s : List ℕ) (t i : ℕ) : Type 0 where
+    pub inside : i ≤ length s
+    pub same : i + first p (drop i s) ≡ t
+
+  pub came-next : (s : List ℕ) (t i : ℕ) → Came s t i → i < length s → p (drop i s) ≡ false → Came s t (i + 1)
+  came-next s t i k h no-place =
+      let cut : drop i s ≡ getD s i 0 ∷ drop (suc i) s = drop-cons s i 0 h in
+      let step : first p (drop i s) ≡ suc (first p (drop (i + 1) s)) = rw (add-one, cut) (first-no _ _ (rw cut at no-place)) in
+      record { inside = add-one-le h; same = omega (arith, step, k .same) }
+
+  pub came-found : (s : List ℕ) (t i : ℕ) → Came s t i → i < length s → p (drop i s) ≡ true → i ≡ t
+  came-found s t i k h here =
+      let cut : drop i s ≡ getD s i 0 ∷ drop (suc i) s = drop-cons s i 0 h in
+      let step : first p (drop i s) ≡ 0 = rw cut (first-yes _ _ (rw cut at here)) in
+      omega (arith, step, k .same)
+
+  pub came-end : (s : List ℕ) (t i : ℕ) → Came s t i → length s ≤ i → i ≡ t
+  unfolding first
+  came-end s t i k h =
+      let step : first p (drop i s) ≡ 0 = rw (drop-of-length-le s h) in
+      omega (arith, step, k .same)
+
+  first-le-by : (b : ℕ) (s : List ℕ) → first p s ≤ length s → (t : Bool) → p (b ∷ s) ≡ t → first p (b ∷ s) ≤ suc (length s)
+  first-le-by b s h true e = rw (first-yes b s e) zero-le
+  first-le-by b s h false e = rw (first-no b s e) (suc-le-suc h)
+
+  pub first-le : (s : List ℕ) → first p s ≤ length s
+  unfolding first
+  first-le [] = zero-le
+  first-le (b ∷ s) = first-le-by b s (first-le s) (p (b ∷ s)) refl
+
+-- ---- marks
+
+-- the mark's first byte, which is not 0, stands at i, and the others after it
+begins-at : (a : ℕ) (mark s : List ℕ) (i : ℕ) → eqb a 0 ≡ false → begins (a ∷ mark) (drop i s) ≡ eqb a (getD s i 0) && begins mark (drop (i + 1) s)
+begins-at a mark [] zero h = rw h
+begins-at a mark (b ∷ s) zero h = refl
+begins-at a mark [] (suc i) h = rw h
+begins-at a mark (b ∷ s) (suc i) h = begins-at a mark s i h ∙ rw suc-add
+
+empty-line-is : (s : List ℕ) (i : ℕ)
+    → begins empty-line (drop i s)
+    ≡ eqb 13 (getD s i 0) && (eqb 10 (getD s (i + 1) 0) && (eqb 13 (getD s (i + 1 + 1) 0) && (eqb 10 (getD s (i + 1 + 1 + 1) 0) && true)))
+empty-line-is s i =
+    rw (begins-at 13 (10 ∷ 13 ∷ 10 ∷ []) s i refl, begins-at 10 (13 ∷ 10 ∷ []) s (i + 1) refl, begins-at 13 (10 ∷ []) s (i + 1 + 1) refl, begins-at 10 [] s (i + 1 + 1 + 1) refl)
+
+-- the bytes that the code finds from i on
+module _ (s : List ℕ) (i a : ℕ) (ea : a ≡ getD s i 0) where
+  pub empty-no : (a ≡ 13 → ⊥) → false ≡ begins empty-line (drop i s)
+  empty-no h = sym (empty-line-is s i ∙ rw (← ea, ne-eqb 13 a (λ e. h (sym e))))
+
+  module _ (b : ℕ) (eb : b ≡ getD s (i + 1) 0) (ha : a ≡ 13) where
+    at-a : eqb 13 (getD s i 0) ≡ true
+    at-a = eq-eqb 13 (getD s i 0) (sym ha ∙ ea)
+
+    pub empty-no-2 : (b ≡ 10 → ⊥) → false ≡ begins empty-line (drop i s)
+    empty-no-2 h = sym (empty-line-is s i ∙ rw (at-a, ← eb, ne-eqb 10 b (λ e. h (sym e))))
+
+    module _ (c : ℕ) (ec : c ≡ getD s (i + 2) 0) (hb : b ≡ 10) where
+      at-b : eqb 10 (getD s (i + 1) 0) ≡ true
+      at-b = eq-eqb 10 (getD s (i + 1) 0) (sym hb ∙ eb)
+
+      ec′ : c ≡ getD s (i + 1 + 1) 0
+      ec′ = let e : i + 2 ≡ i + 1 + 1 = omega arith in ec ∙ ap (λ (k : ℕ). getD s k 0) e
+
+      pub empty-no-3 : (c ≡ 13 → ⊥) → false ≡ begins empty-line (drop i s)
+      empty-no-3 h = sym (empty-line-is s i ∙ rw (at-a, at-b, ← ec′, ne-eqb 13 c (λ e. h (sym e))))
+
+      module _ (d : ℕ) (ed : d ≡ getD s (i + 3) 0) (hc : c ≡ 13) where
+        at-c : eqb 13 (getD s (i + 1 + 1) 0) ≡ true
+        at-c = eq-eqb 13 (getD s (i + 1 + 1) 0) (sym hc ∙ ec′)
+
+        ed′ : d ≡ getD s (i + 1 + 1 + 1) 0
+        ed′ = let e : i + 3 ≡ i + 1 + 1 + 1 = omega arith in ed ∙ ap (λ (k : ℕ). getD s k 0) e
+
+        pub empty-no-4 : (d ≡ 10 → ⊥) → false ≡ begins empty-line (drop i s)
+        empty-no-4 h = sym (empty-line-is s i ∙ rw (at-a, at-b, at-c, ← ed′, ne-eqb 10 d (λ e. h (sym e))))
+
+        pub empty-yes : d ≡ 10 → true ≡ begins empty-line (drop i s)
+        empty-yes h = sym (empty-line-is s i ∙ rw (at-a, at-b, at-c, ← ed′, eq-eqb 10 d (sym h)))
+
+-- the end of a field's line
+module _ (h : List ℕ) (i : ℕ) where
+  line-break-is : line-break (drop i h) ≡ ((eqb 13 (getD h i 0) && (eqb 10 (getD h (i + 1) 0) && true)) && not (white (getD h (i + 2) 0)))
+  line-break-is = rw (begins-at 13 (10 ∷ []) h i refl, begins-at 10 [] h (i + 1) refl, getD-drop)
+
+  pub break-no-cr : (getD h i 0 ≡ 13 → ⊥) → false ≡ line-break (drop i h)
+  break-no-cr n = sym (line-break-is ∙ rw (ne-eqb 13 (getD h i 0) (λ e. n (sym e))))
+
+  module _ (cr : getD h i 0 ≡ 13) (b : ℕ) (eb : b ≡ getD h (i + 1) 0) where
+    pub break-no-lf : (b ≡ 10 → ⊥) → false ≡ line-break (drop i h)
+    break-no-lf n = sym (line-break-is ∙ rw (cr, ← eb, ne-eqb 10 b (λ e. n (sym e))))
+
+    module _ (lf : b ≡ 10) (x : ℕ) (ex : x ≡ getD h (i + 2) 0) (r : Bool) (er : r ≡ white x) where
+      pair-here : line-break (drop i h) ≡ not r
+      pair-here = line-break-is ∙ rw (cr, ← eb, lf, ← ex, ← er)
+
+      pub break-fold : r ≡ true → false ≡ line-break (drop i h)
+      break-fold y = sym (pair-here ∙ ap not y)
+
+      pub break-yes : r ≡ false → true ≡ line-break (drop i h)
+      break-yes n = sym (pair-here ∙ ap not n)
+
+-- a search for one byte
+module _ (s : List ℕ) (b t i : ℕ) (k : Came (begins (b ∷ [])) s t i) (inside : i < length s) where
+  pub place-found : getD s i 0 ≡ b → i ≡ t
+  place-found h = came-found (begins (b ∷ [])) s t i k inside (rw (drop-cons s i 0 inside, eq-eqb b (getD s i 0) (sym h)))
+
+  pub place-next : (getD s i 0 ≡ b → ⊥) → Came (begins (b ∷ [])) s t (i + 1)
+  place-next h = came-next (begins (b ∷ [])) s t i k inside (rw (drop-cons s i 0 inside, ne-eqb b (getD s i 0) (λ e. h (sym e))))
+
+-- a mark that was found lies inside
+pub begins-long : (mark s : List ℕ) → begins mark s ≡ true → length mark ≤ length s
+begins-long [] s e = zero-le
+begins-long (a ∷ mark) [] e = let z : _≡_ {A = ℕ} 0 1 = cc in absurd (omega arith)
+begins-long (a ∷ mark) (b ∷ s) e = suc-le-suc (begins-long mark s (is-true (begins mark s) (right (eqb a b) (begins mark s) (T-of e))))
+
+module _ (p : List ℕ → Bool) where
+  holds-by : (b : ℕ) (s : List ℕ) → (first p s < length s → p (drop (first p s) s) ≡ true) → (t : Bool) → p (b ∷ s) ≡ t
+      → first p (b ∷ s) < suc (length s) → p (drop (first p (b ∷ s)) (b ∷ s)) ≡ true
+  holds-by b s h true e l = ap (λ (k : ℕ). p (drop k (b ∷ s))) (first-yes p b s e) ∙ e
+  holds-by b s h false e l = ap (λ (k : ℕ). p (drop k (b ∷ s))) (first-no p b s e) ∙ h (omega (arith, first-no p b s e))
+
+  -- the test holds at the place found
+  pub first-holds : (s : List ℕ) → first p s < length s → p (drop (first p s) s) ≡ true
+  first-holds [] l = absurd (not-suc-le-zero l)
+  first-holds (b ∷ s) l = holds-by b s (first-holds s) (p (b ∷ s)) refl l
+
+-- ---- a cut at the first mark
+
+module _ (mark : List ℕ) where
+  abbrev cut-here : List ℕ → ℕ → Option Cut
+  cut-here s k = some (record { before = take k s; after = drop (k + length mark) s })
+
+  abbrev pushed : ℕ → Option Cut → Option Cut
+  pushed b o = o >>= λ c. some (record { before = b ∷ c .before; after = c .after })
+
+  cut-yes : (b : ℕ) (s : List ℕ) → begins mark (b ∷ s) ≡ true → first-cut mark (b ∷ s) ≡ cut-here (b ∷ s) 0
+  unfolding first-cut
+  cut-yes b s e =
+      ap (λ (t : Bool). pick t (some (record { before = []; after = drop (length mark) (b ∷ s) })) (pushed b (first-cut mark s))) e
+      ∙ ap (λ (k : ℕ). some (record { before = []; after = drop k (b ∷ s) })) (sym (zero-add (length mark)))
+
+  cut-no : (b : ℕ) (s : List ℕ) → begins mark (b ∷ s) ≡ false → first-cut mark (b ∷ s) ≡ pushed b (first-cut mark s)
+  unfolding first-cut
+  cut-no b s e = ap (λ (t : Bool). pick t (some (record { before = []; after = drop (length mark) (b ∷ s) })) (pushed b (first-cut mark s))) e
+
+  abbrev Found : List ℕ → Type 0
+  Found s = first (begins mark) s < length s → first-cut mark s ≡ cut-here s (first (begins mark) s)
+
+  found-by : (b : ℕ) (s : List ℕ) → Found s → (t : Bool) → begins mark (b ∷ s) ≡ t → Found (b ∷ s)
+  found-by b s h true e l = cut-yes b s e ∙ ap (cut-here (b ∷ s)) (sym (first-yes (begins mark) b s e))
+  found-by b s h false e l =
+      let k = first (begins mark) s in
+      let more : k < length s = omega (arith, first-no (begins mark) b s e) in
+      cut-no b s e ∙ ap (pushed b) (h more)
+      ∙ ap (λ (j : ℕ). some (record { before = b ∷ take k s; after = drop j (b ∷ s) })) (sym (suc-add k (length mark)))
+      ∙ ap (cut-here (b ∷ s)) (sym (first-no (begins mark) b s e))
+
+  -- the mark stands at the place found
+  pub cut-found : (s : List ℕ) → Found s
+  cut-found [] l = absurd (not-suc-le-zero l)
+  cut-found (b ∷ s) l = found-by b s (cut-found s) (begins mark (b ∷ s)) refl l
+
+  missing-by : (b : ℕ) (s : List ℕ) → (length s ≤ first (begins mark) s → first-cut mark s ≡ none)
+      → (t : Bool) → begins mark (b ∷ s) ≡ t → suc (length s) ≤ first (begins mark) (b ∷ s) → first-cut mark (b ∷ s) ≡ none
+  missing-by b s h true e l = absurd (omega (arith, first-yes (begins mark) b s e))
+  missing-by b s h false e l =
+      let less : length s ≤ first (begins mark) s = omega (arith, first-no (begins mark) b s e) in
+      cut-no b s e ∙ ap (pushed b) (h less)
+
+  -- it stands nowhere
+  pub cut-missing : (s : List ℕ) → length s ≤ first (begins mark) s → first-cut mark s ≡ none
+  unfolding first-cut
+  cut-missing [] l = refl
+  cut-missing (b ∷ s) l = missing-by b s (cut-missing s) (begins mark (b ∷ s)) refl l
+
+  -- how much stands before it
+  pub before-length : (s : List ℕ) → length (before-cut s (first-cut mark s)) ≡ first (begins mark) s
+  before-length s =
+      let k = first (begins mark) s in
+      let k-le : k ≤ length s = first-le (begins mark) s in
+      elim (decLe (length s) k) [
+        | yes h ↦ ap (λ (o : Option Cut). length (before-cut s o)) (cut-missing s h) ∙ omega arith
+        | no h ↦ ap (λ (o : Option Cut). length (before-cut s o)) (cut-found s (omega (arith, h))) ∙ length-take-le k s k-le
+      ]
+
+-- the end of the head
+pub head-end : (s : List ℕ) → length (head-of s) ≡ first (begins empty-line) s
+unfolding head-of
+head-end s = before-length empty-line s
