@@ -6,3 +6,4 @@ pub mod Kept
 pub mod Options
 pub mod Table
 pub mod Tests
+pub mod Tokens

@@ -1,7 +1,7 @@
 // Bytes: their classes, their case forms, and equal bytes.
 ghost use mathlib.Core.Path.{_≡_};
 ghost use lib.ListN.{getD};
-ghost use Rattle.octets.specs.Bytes.{class-of, lower, upper, same-any-case};
+ghost use Rattle.octets.specs.Bytes.{class-of, lower, upper, same-any-case, token};
 ghost use Rattle.octets.specs.Lists.{same};
 
 // "a table of 256 byte classes, one for each byte" (document 01): 1 token, 2 SP or HTAB, 3 any other of 33..126, 4 128 and up, 0 the rest.
@@ -335,6 +335,24 @@ pub fn same_letters(a: &[u8], b: &[u8]) -> bool
         let y = lower_of(b[i]);
         i += 1;
         if x != y {
+            return false;
+        }
+    }
+    true
+}
+
+// One or more token bytes: a method, a field's name.
+pub fn is_token(s: &[u8]) -> bool
+    ensures { λ r. ⌜ r ≡ token (now (s .entry)) ⌝ }
+{
+    if s.len() == 0 {
+        return false;
+    }
+    let mut i: usize = 0;
+    while i < s.len() {
+        let k = class(s[i]);
+        i += 1;
+        if k != 1 {
             return false;
         }
     }
