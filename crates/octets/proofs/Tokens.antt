@@ -1,6 +1,6 @@
 -- A token, byte by byte, as a loop finds it.
-use mathlib.Core.Path.{_≡_, refl, sym, ap, ap₂, _∙_}
-use mathlib.Core.Bool.{Bool, true, false, not, _&&_}
+use mathlib.Core.Path.{_≡_, refl, sym, ap, _∙_}
+use mathlib.Core.Bool.{Bool, true, false, _&&_}
 use mathlib.Core.List.{List, [], _∷_}
 use Prim.Native.Nat.{ℕ, _+_, _≤_, _<_}
 use native.Mathlib.Numerals.{add-one}
@@ -9,7 +9,7 @@ use lib.ListN.{length, getD, drop, drop-of-length-le}
 use lib.Seq.{drop-cons}
 use lib.Dec.{eqb}
 use borrow.Author.Tests.{eq-eqb, ne-eqb}
-use Rattle.octets.specs.Lists.{every, empty}
+use Rattle.octets.specs.Lists.{every}
 use Rattle.octets.specs.Bytes.{token-byte, class-of, token}
 use Rattle.octets.proofs.Classes.{rules}
 

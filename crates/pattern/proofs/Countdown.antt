@@ -1,18 +1,18 @@
 -- The number that `items` and `body` count down never ends a reading: any number above the length gives the same.
-use mathlib.Core.Bool.{Bool, true, false, not, _&&_, _||_}
+use mathlib.Core.Bool.{Bool, true, false, not, _&&_}
 use mathlib.Core.Option.{Option, none, some}
-use mathlib.Core.Path.{_≡_, refl, sym, ap, _∙_}
-use Prim.Native.Nat.{ℕ, zero, suc, _+_, _≤_, _<_, zero-le, suc-le-suc}
-use native.Mathlib.Nat.{le-refl, le-trans, le-of-suc-le-suc, not-suc-le-zero, le-step}
+use mathlib.Core.Path.{_≡_, refl, ap}
+use Prim.Native.Nat.{ℕ, zero, suc, _≤_, _<_}
+use native.Mathlib.Nat.{le-refl, not-suc-le-zero, le-step}
 use native.Mathlib.Omega.{arith}
 use mathlib.Core.List.{List, [], _∷_}
 use lib.ListN.{length, drop, length-drop}
-use lib.Dec.{T, leb, eqb}
+use lib.Dec.{leb, eqb}
 use Rattle.octets.specs.Lists.{text, pick, some-of, empty, peek}
 use Rattle.octets.specs.Option.{_>>=_, holds}
 use Rattle.octets.proofs.Tests.{either}
 use Rattle.octets.proofs.Options.{Ok, ok-then, bind-ext, any}
-use Rattle.pattern.specs.Pattern.{Range, Atom, byte, dot, list, Elem}
+use Rattle.pattern.specs.Pattern.{Range, Atom, byte, dot, list}
 use Rattle.pattern.specs.Places.{items-of, body-of}
 use Rattle.pattern.specs.Reading.{elem, Read, read, class-opens, range-opens, range, single, begins-item, item, items, bracket, escaped, asterisk, atom, Body, body}
 

@@ -232,7 +232,7 @@ module _ (s : List ℕ) where
   unfolding profile
   profile-sound at =
       let S : Profile → Type 0 = Sound s in
-      then-any S (field 1 (eqb 1) s at) _ (λ edition a1.
+      then-any S (field 1 (λ v. eqb v 1) s at) _ (λ edition a1.
       then-any S (field 2 (λ n. leb n 1024) s a1) _ (λ n-strings a2.
       then-with S (Each (Inside s)) (entries string n-strings [] s a2) _ (entries-each string s (Inside s) (string-inside s) n-strings a2) (λ strings a3 all.
       then-with S (λ n. T (leb n 2048)) (field 2 (λ n. leb n 2048) s a3) _ (field-passes 2 (λ n. leb n 2048) s a3) (λ n-rows a4 rows-few.

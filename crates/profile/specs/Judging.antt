@@ -74,7 +74,7 @@ as-information x = some x
 
 -- "second .. always 65535 for kinds 0, 1, 3"
 abbrev pub no-second : Reader ℕ
-no-second = field 2 (eqb 65535)
+no-second = field 2 (λ v. eqb v 65535)
 
 -- "registration set, 1 byte, 0..6"
 abbrev pub registration : Reader ℕ
@@ -212,7 +212,7 @@ nothing-follows = λ s at. pick (eqb at (length s)) (got tt at) (fault 3 at)
 unfoldable pub profile : Reader Profile
 unfolding entries all-rows-have read-pattern
 profile = do
-  _ ← field 1 (eqb 1)
+  _ ← field 1 (λ v. eqb v 1)
   n-strings ← field 2 (λ n. leb n 1024)
   strings ← entries string n-strings []
   n-rows ← field 2 (λ n. leb n 2048)

@@ -1,5 +1,10 @@
+pub mod Answers
+pub mod Decoded
 pub mod Examples
 pub mod Image
 pub mod Judging
+pub mod Kept
 pub mod Lookups
+pub mod Out
+pub mod Places
 pub mod Reader

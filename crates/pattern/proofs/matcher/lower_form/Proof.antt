@@ -3,7 +3,6 @@ use Rattle.pattern.proofs.Choosing.{picks-first, picks-second}
 use mathlib.Core.Path.{refl}
 use Rattle.pattern.proofs.matcher.lower_form.Statement.{statement}
 use Rattle.pattern.proofs.matcher.lower_form.Tie as tie
-use Rattle.octets.proofs.lower_of.Reads as lower-of-reads
 
 lower-of-requires : tie.Need-lower-of-requires
 lower-of-requires c κs = search needs

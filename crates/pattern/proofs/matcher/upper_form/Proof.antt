@@ -3,7 +3,6 @@ use Rattle.pattern.proofs.Choosing.{picks-first, picks-second}
 use mathlib.Core.Path.{refl}
 use Rattle.pattern.proofs.matcher.upper_form.Statement.{statement}
 use Rattle.pattern.proofs.matcher.upper_form.Tie as tie
-use Rattle.octets.proofs.upper_of.Reads as upper-of-reads
 
 upper-of-requires : tie.Need-upper-of-requires
 upper-of-requires c κs = search needs

@@ -1,0 +1,280 @@
+-- What an accepted image's judgement tells the steps above: where everything lies, that it lies in the image, and what it is.
+use mathlib.Core.Bool.{Bool}
+use mathlib.Core.Option.{Option, none, some}
+use mathlib.Core.Path.{_≡_, refl, sym, ap, ap₂, _∙_, subst}
+use Prim.Native.Nat.{ℕ, zero, suc, _+_, _*_, _≤_, _<_, zero-le}
+use native.Mathlib.Nat.{le-of-suc-le-suc, not-suc-le-zero}
+use native.Mathlib.Omega.{arith}
+use mathlib.Core.List.{List, [], _∷_, _++_, map}
+use lib.ListN.{length, take, drop, getD, getElem?, replicate, List·getD-append, length-append, length-drop, length-replicate}
+use lib.Seq.{take-at}
+use borrow.Author.Tests.{eq-eqb, ne-eqb}
+use Rattle.octets.specs.Lists.{pick}
+use Rattle.octets.proofs.Options.{Ok}
+use Rattle.octets.proofs.Each.{each-at}
+use Rattle.profile.specs.Image as image
+use Rattle.profile.specs.Image.{Stored, Judged, accepted, refused}
+use Rattle.profile.specs.Judging.{judge}
+use Rattle.profile.specs.Out.{good}
+use Rattle.profile.specs.Places as places
+use Rattle.profile.specs.Places.{word, spaced, readStrings}
+use Rattle.profile.specs.Decoded.{offsets, layout, strings, stored, stored-in, string-of, criterion-with, criterion-from, profile-in}
+use Rattle.profile.specs.Answers.{Table, opening}
+use Rattle.profile.specs.Lookups.{checked, check, no-part, the-part, look-at, look-judged, its-server, its-information, server, information, part-of, Checks, Serves, Informs}
+use Rattle.profile.specs.Kept.{kept, judgement, string-table, Judges}
+use Rattle.profile.specs.declared.Layout.{Layout}
+use Rattle.profile.specs.declared.Lookup.{Lookup}
+use Rattle.profile.specs.declared.Judgement.{Judgement}
+use Rattle.profile.proofs.Same.{Laid, laid, accepted-good}
+use Rattle.profile.proofs.Accepted.{Inside, Fine, accepted-sound}
+use Rattle.profile.proofs.Placed.{placed-low}
+use Rattle.profile.proofs.Laws.{bind-inv, good-inj}
+use Rattle.profile.proofs.Texts.{sized-inv}
+use Rattle.profile.proofs.ImageLaws.{judge-opens, strings-on, opening-inv, opening-count}
+
+-- ---- the k-th of a section
+
+pub spaced-length : {A : Type 0} (item : ℕ → A) (w at n : ℕ) → length (spaced item w at n) ≡ n
+unfolding spaced
+spaced-length item w at zero = refl
+spaced-length item w at (suc n) = ap suc (spaced-length item w (at + w) n)
+
+pub spaced-at : {A : Type 0} (item : ℕ → A) (w at n k : ℕ) → k < n → getElem? (spaced item w at n) k ≡ some (item (at + w * k))
+unfolding spaced
+spaced-at item w at zero k h = absurd (not-suc-le-zero h)
+spaced-at item w at (suc n) zero h = let e : at ≡ at + w * 0 = omega arith in ap (λ (j : ℕ). some (item j)) e
+spaced-at item w at (suc n) (suc k) h =
+    let e : at + w + w * k ≡ at + w * suc k = omega arith in
+    spaced-at item w (at + w) n k (le-of-suc-le-suc h) ∙ ap (λ (j : ℕ). some (item j)) e
+
+pub spaced-past : {A : Type 0} (item : ℕ → A) (w at n k : ℕ) → n ≤ k → getElem? (spaced item w at n) k ≡ none
+unfolding spaced
+spaced-past item w at zero k h = refl
+spaced-past item w at (suc n) zero h = absurd (not-suc-le-zero h)
+spaced-past item w at (suc n) (suc k) h = spaced-past item w (at + w) n k (le-of-suc-le-suc h)
+
+-- ---- an accepted image
+
+pub record Opened (s : List ℕ) (j : Judgement) : Type 0 where
+  pub accepts : judge s ≡ accepted (profile-in s)
+  pub layout-is : j .layout ≡ layout s
+  pub table-is : j .table ≡ string-table s
+  pub size : length s ≤ 32768
+  pub end : layout s .criteria + 15 * layout s .«criterion_count» ≡ length s
+
+refused-not : (n : ℕ) {place : ℕ} (s : List ℕ) → judge s ≡ refused n place → n ≡ 0 → ⊥
+refused-not n {place} s e z = let h = placed-low s n place e in omega (arith, h .1)
+
+pub opened : (s : List ℕ) (j : Judgement) → Judges s j → j .refusal ≡ 0 → Opened s j
+unfolding judgement
+opened s j h z = go (judge s) refl (h .answer)
+  where
+    go : (d : Judged) → judge s ≡ d → j ≡ kept s d → Opened s j
+    go (accepted p) e f =
+        let (q, g, k) = accepted-good s p e in
+        let l : Laid s q = laid s q g in
+        record {
+          accepts = e ∙ ap accepted k;
+          layout-is = ap (λ (x : Judgement). x .layout) f;
+          table-is = ap (λ (x : Judgement). x .table) f;
+          size = l .size;
+          end = l .end;
+        }
+    go (refused n place) e f = absurd (refused-not n s e (sym (ap (λ (x : Judgement). x .refusal) f) ∙ z))
+
+-- ---- check and lookups
+
+pub checked-is : (s : List ℕ) (j : Judgement) → Judges s j → Checks s (record { refusal = j .refusal; place = j .place })
+unfolding judgement check
+checked-is s j h = record { answer = go (judge s) (h .answer) }
+  where
+    go : (d : Judged) → j ≡ kept s d → record { refusal = j .refusal; place = j .place } ≡ checked d
+    go (accepted p) f = ap₂ (λ (a b : ℕ). record { refusal = a; place = b }) (ap (λ (x : Judgement). x .refusal) f) (ap (λ (x : Judgement). x .place) f)
+    go (refused n place) f = ap₂ (λ (a b : ℕ). record { refusal = a; place = b }) (ap (λ (x : Judgement). x .refusal) f) (ap (λ (x : Judgement). x .place) f)
+
+-- a lookup of any part
+module _ (part : image.Criterion → Option Stored) (s : List ℕ) (j : Judgement) (h : Judges s j) (k : ℕ) where
+  look-refused : (j .refusal ≡ 0 → ⊥) → no-part (j .refusal) (j .place) ≡ look-judged part (judge s) k
+  unfolding judgement
+  look-refused n = go (judge s) (h .answer)
+    where
+      go : (d : Judged) → j ≡ kept s d → no-part (j .refusal) (j .place) ≡ look-judged part d k
+      go (accepted p) f = absurd (n (ap (λ (x : Judgement). x .refusal) f))
+      go (refused m place) f = ap₂ no-part (ap (λ (x : Judgement). x .refusal) f) (ap (λ (x : Judgement). x .place) f)
+
+  module _ (z : j .refusal ≡ 0) where
+    look-on : look-judged part (judge s) k ≡ look-at part (getElem? (profile-in s .criteria) k)
+    look-on = ap (λ (d : Judged). look-judged part d k) (opened s j h z .accepts)
+
+    look-past : j .layout .«criterion_count» ≤ k → no-part 13 0 ≡ look-judged part (judge s) k
+    unfolding profile-in
+    look-past l =
+        let e : layout s .«criterion_count» ≤ k = subst (λ (y : Layout). y .«criterion_count» ≤ k) (opened s j h z .layout-is) l in
+        sym (look-on ∙ ap (look-at part) (spaced-past (criterion-from (strings s) s) 15 (layout s .criteria) (layout s .«criterion_count») k e))
+
+    look-there : k < j .layout .«criterion_count» → the-part (part (criterion-from (strings s) s (j .layout .criteria + 15 * k))) ≡ look-judged part (judge s) k
+    unfolding profile-in
+    look-there l =
+        let y : j .layout ≡ layout s = opened s j h z .layout-is in
+        let e : k < layout s .«criterion_count» = subst (λ (y : Layout). k < y .«criterion_count») y l in
+        ap (λ (y : Layout). the-part (part (criterion-from (strings s) s (y .criteria + 15 * k)))) y
+        ∙ sym (look-on ∙ ap (look-at part) (spaced-at (criterion-from (strings s) s) 15 (layout s .criteria) (layout s .«criterion_count») k e))
+
+-- ---- the strings
+
+string-end : (s : List ℕ) (at : ℕ) (a : List ℕ) (next : ℕ) → places.string s at ≡ good (a, next) → (next ≡ at + 2 + word s at) × (at + 2 + word s at ≤ length s)
+unfolding places.string
+string-end s at a next e =
+    let (v, q, r) = bind-inv (places.sized s at) _ (a, next) e in
+    let w = sized-inv s at v q in
+    let z : at + 2 + v ≡ next = ap (λ (x : List ℕ × ℕ). x .1) (good-inj r) in
+    (omega (arith, w .0), omega (arith, w .0, w .2))
+
+-- every string lies in the image
+offsets-inside : (s : List ℕ) (n at : ℕ) (before : List (List ℕ)) (q : List (List ℕ) × ℕ) → places.many (λ u. places.string s) n at before ≡ good q
+    → (k : ℕ) → k < n → getD (offsets s n at) k 0 + 2 + word s (getD (offsets s n at) k 0) ≤ length s
+unfolding places.many offsets
+offsets-inside s zero at before q e k h = absurd (not-suc-le-zero h)
+offsets-inside s (suc n) at before q e zero h =
+    let ((a, next), f, r) = bind-inv (places.string s at) _ q e in
+    string-end s at a next f .1
+offsets-inside s (suc n) at before q e (suc k) h =
+    let ((a, next), f, r) = bind-inv (places.string s at) _ q e in
+    let z : next ≡ at + 2 + word s at = string-end s at a next f .0 in
+    offsets-inside s n (at + 2 + word s at) (before ++ (a ∷ [])) q (subst (λ (m : ℕ). places.many (λ u. places.string s) n m (before ++ (a ∷ [])) ≡ good q) z r) k (le-of-suc-le-suc h)
+
+offsets-length : (s : List ℕ) (n at : ℕ) → length (offsets s n at) ≡ n
+unfolding offsets
+offsets-length s zero at = refl
+offsets-length s (suc n) at = ap suc (offsets-length s n (at + 2 + word s at))
+
+-- how many strings there are, and that they were read
+strings-read : (s : List ℕ) (p : places.Profile) → places.judge s ≡ good p → (word s 1 ≤ 1024) × (q : List (List ℕ) × ℕ) × (readStrings s (word s 1) 3 ≡ good q)
+strings-read s p e =
+    let (n, o, r) = bind-inv (opening s) (strings-on s) p (sym (judge-opens s) ∙ e) in
+    let (q, f, g) = bind-inv (readStrings s n 3) _ p r in
+    let z : n ≡ word s 1 = opening-count s n o in
+    (subst (λ (m : ℕ). m ≤ 1024) z (opening-inv s n o .1), q, subst (λ (m : ℕ). readStrings s m 3 ≡ good q) z f)
+
+module _ (s : List ℕ) (j : Judgement) (h : Judges s j) (z : j .refusal ≡ 0) where
+  many-strings : j .layout .strings ≡ word s 1
+  unfolding layout
+  many-strings = ap (λ (y : Layout). y .strings) (opened s j h z .layout-is)
+
+  read-strings : (word s 1 ≤ 1024) × (q : List (List ℕ) × ℕ) × (readStrings s (word s 1) 3 ≡ good q)
+  read-strings = let (p, e, k) = accepted-good s (profile-in s) (opened s j h z .accepts) in strings-read s p e
+
+  table-at : (k : ℕ) → k < word s 1 → getD (j .table) k 0 ≡ getD (offsets s (word s 1) 3) k 0
+  table-at k l =
+      ap (λ (t : List ℕ). getD t k 0) (opened s j h z .table-is)
+      ∙ List·getD-append (offsets s (word s 1) 3) (drop (word s 1) (replicate 1024 0)) 0 k (omega (arith, offsets-length s (word s 1) 3))
+
+  -- the table names the strings, each of which lies in the image
+  pub table-of : Table s (j .layout .strings) (j .table)
+  unfolding readStrings
+  table-of =
+      let (few, q, e) = read-strings in
+      record {
+        count = omega (arith, many-strings, few);
+        long =
+            ap length (opened s j h z .table-is) ∙ length-append (offsets s (word s 1) 3) (drop (word s 1) (replicate 1024 0))
+            ∙ omega (arith, offsets-length s (word s 1) 3, length-drop {A = ℕ} (word s 1) (replicate 1024 0), length-replicate {A = ℕ} 1024 0, few);
+        inside = λ k m.
+            let low : k < word s 1 = omega (arith, many-strings) in
+            subst (λ (o : ℕ). o + 2 + word s o ≤ length s) (sym (table-at k low)) (offsets-inside s (word s 1) 3 [] q e k low);
+      }
+
+  -- and they are the image's strings
+  pub strings-are : stored-in s (j .layout .strings) (j .table) ≡ strings s
+  unfolding strings
+  strings-are =
+      ap₂ (λ (n : ℕ) (t : List ℕ). map (stored s) (take n t)) many-strings (opened s j h z .table-is)
+      ∙ ap (map (stored s)) (take-at (offsets s (word s 1) 3) (drop (word s 1) (replicate 1024 0)) (word s 1) (offsets-length s (word s 1) 3))
+
+  -- criterion k lies in the image
+  pub criterion-inside : (k : ℕ) → k < j .layout .«criterion_count» → j .layout .criteria + 15 * k + 15 ≤ length s
+  criterion-inside k l =
+      let y = opened s j h z .layout-is in
+      let a : j .layout .criteria ≡ layout s .criteria = ap (λ (y : Layout). y .criteria) y in
+      let b : j .layout .«criterion_count» ≡ layout s .«criterion_count» = ap (λ (y : Layout). y .«criterion_count») y in
+      omega (arith, a, b, opened s j h z .end)
+
+-- ---- the lookups' answers
+
+module _ (s : List ℕ) (j : Judgement) (h : Judges s j) (k : ℕ) where
+  pub server-refused : (l : Lookup) → l ≡ no-part (j .refusal) (j .place) → (j .refusal ≡ 0 → ⊥) → Serves s k l
+  unfolding server
+  server-refused l e n = record { answer = e ∙ look-refused its-server s j h k n }
+
+  pub information-refused : (l : Lookup) → l ≡ no-part (j .refusal) (j .place) → (j .refusal ≡ 0 → ⊥) → Informs s k l
+  unfolding information
+  information-refused l e n = record { answer = e ∙ look-refused its-information s j h k n }
+
+  module _ (z : j .refusal ≡ 0) where
+    pub server-past : (l : Lookup) → l ≡ no-part 13 0 → j .layout .«criterion_count» ≤ k → Serves s k l
+    unfolding server
+    server-past l e n = record { answer = e ∙ look-past its-server s j h k z n }
+
+    pub information-past : (l : Lookup) → l ≡ no-part 13 0 → j .layout .«criterion_count» ≤ k → Informs s k l
+    unfolding information
+    information-past l e n = record { answer = e ∙ look-past its-information s j h k z n }
+
+    module _ (there : k < j .layout .«criterion_count») (i : ℕ) (l : Lookup) where
+      pub server-there : l ≡ the-part (some (string-of (stored-in s (j .layout .strings) (j .table)) i)) → i ≡ word s (j .layout .criteria + 15 * k + 10) → Serves s k l
+      unfolding server criterion-from criterion-with
+      server-there e f = record {
+        answer = e ∙ ap₂ (λ (t : List Stored) (m : ℕ). the-part (some (string-of t m))) (strings-are s j h z) f ∙ look-there its-server s j h k z there;
+      }
+
+      pub information-none : l ≡ no-part 0 0 → i ≡ word s (j .layout .criteria + 15 * k + 13) → i ≡ 65535 → Informs s k l
+      unfolding information criterion-from criterion-with
+      information-none e f g = record {
+        answer =
+            e ∙ sym (ap (λ (b : Bool). the-part (pick b none (some (string-of (strings s) (word s (j .layout .criteria + 15 * k + 13)))))) (eq-eqb (word s (j .layout .criteria + 15 * k + 13)) 65535 (sym f ∙ g)))
+            ∙ look-there its-information s j h k z there;
+      }
+
+      pub information-there : l ≡ the-part (some (string-of (stored-in s (j .layout .strings) (j .table)) i)) → i ≡ word s (j .layout .criteria + 15 * k + 13) → (i ≡ 65535 → ⊥) → Informs s k l
+      unfolding information criterion-from criterion-with
+      information-there e f g = record {
+        answer =
+            e ∙ ap₂ (λ (t : List Stored) (m : ℕ). the-part (some (string-of t m))) (strings-are s j h z) f
+            ∙ sym (ap (λ (b : Bool). the-part (pick b none (some (string-of (strings s) (word s (j .layout .criteria + 15 * k + 13)))))) (ne-eqb (word s (j .layout .criteria + 15 * k + 13)) 65535 (λ q. g (f ∙ q))))
+            ∙ look-there its-information s j h k z there;
+      }
+
+-- ---- what is handed back lies in the image
+
+ends-in : (s : List ℕ) (o : Option Stored) → Ok (Inside s) o → the-part o .start + the-part o .length ≤ length s
+ends-in s none h = zero-le
+ends-in s (some x) h = h .ends
+
+look-in : (part : image.Criterion → Option Stored) (s : List ℕ) (n k : ℕ) → ((c : image.Criterion) → Fine s n c → Ok (Inside s) (part c))
+    → (o : Option image.Criterion) → Ok (Fine s n) o → look-at part o .start + look-at part o .length ≤ length s
+look-in part s n k f none h = zero-le
+look-in part s n k f (some c) h = ends-in s (part c) (f c h)
+
+judged-in : (part : image.Criterion → Option Stored) (s : List ℕ) (k : ℕ) → ((n : ℕ) (c : image.Criterion) → Fine s n c → Ok (Inside s) (part c))
+    → look-judged part (judge s) k .start + look-judged part (judge s) k .length ≤ length s
+judged-in part s k f = go (judge s) refl
+  where
+    go : (d : Judged) → judge s ≡ d → look-judged part d k .start + look-judged part d k .length ≤ length s
+    go (refused n place) e = zero-le
+    go (accepted p) e =
+        look-in part s (length (p .rows)) k (f (length (p .rows))) (getElem? (p .criteria) k)
+        (each-at (Fine s (length (p .rows))) (p .criteria) k (accepted-sound s p e .fine))
+
+pub server-in : (s : List ℕ) (k : ℕ) (l : Lookup) → Serves s k l → l .start + l .length ≤ length s
+unfolding server
+server-in s k l h = subst (λ (x : Lookup). x .start + x .length ≤ length s) (sym (h .answer)) (judged-in its-server s k (λ n c f. f .server-in))
+
+pub information-in : (s : List ℕ) (k : ℕ) (l : Lookup) → Informs s k l → l .start + l .length ≤ length s
+unfolding information
+information-in s k l h = subst (λ (x : Lookup). x .start + x .length ≤ length s) (sym (h .answer)) (judged-in its-information s k (λ n c f. f .info-in))
+
+-- the bytes of the definition's part
+pub server-bytes : (s : List ℕ) (k : ℕ) (l : Lookup) (r : List ℕ) → Serves s k l → r ≡ part-of s l → r ≡ part-of s (server s k)
+server-bytes s k l r h e = e ∙ ap (part-of s) (h .answer)
+
+pub information-bytes : (s : List ℕ) (k : ℕ) (l : Lookup) (r : List ℕ) → Informs s k l → r ≡ part-of s l → r ≡ part-of s (information s k)
+information-bytes s k l r h e = e ∙ ap (part-of s) (h .answer)

@@ -1,0 +1,82 @@
+use Rattle.profile.proofs.ImageLaws.{fit-refused, rows-f, rows-g, rows-h, laid-refused, laid-on-rows}
+use Rattle.profile.proofs.Decode.{rows-are}
+use native.Mathlib.Omega.{arith}
+use denote.Ref.{now}
+use Rattle.profile.proofs.Laws.{is, counted-inv}
+use borrow.Author.Needs.{needs}
+use Rattle.profile.proofs.from_rows.Statement.{statement}
+use Rattle.profile.proofs.from_rows.Tie as tie
+
+count-at-requires : tie.Need-count-at-requires
+count-at-requires c κs = search needs
+
+enum-known-f : tie.Need-enum-known-f
+enum-known-f c = search needs
+
+enum-told : tie.Need-enum-told
+enum-told c = search needs
+
+refusal-requires : tie.Need-refusal-requires
+refusal-requires c κs = search needs
+
+returns : tie.Need-returns
+returns c = (search rows-f, (search fit-refused, search laid-refused))
+
+add-rows : tie.Need-add-rows
+add-rows c = search needs
+
+rows-requires : tie.Need-rows-requires
+rows-requires c κs =
+    let f = c .before in
+    (omega arith, omega (arith, counted-inv _ _ _ _ (is (f .before .before .count-at .ensures) (f .f .given .1))), f .before .before .before .before .pre .1)
+
+enum-known-g : tie.Need-enum-known-g
+enum-known-g c = search needs
+
+enum-told-2 : tie.Need-enum-told-2
+enum-told-2 c = search needs
+
+refusal-requires-2 : tie.Need-refusal-requires-2
+refusal-requires-2 c κs = search needs
+
+returns-2 : tie.Need-returns-2
+returns-2 c = (search rows-g, (search fit-refused, search laid-refused))
+
+add-from-members : tie.Need-add-from-members
+add-from-members c = search needs
+
+from-members-requires : tie.Need-from-members-requires
+from-members-requires c κs =
+    let g = c .before in
+    let f = g .before .before .before .before in
+    let at-count = f .before .before in
+    let n = counted-inv _ _ _ _ (is (at-count .count-at .ensures) (f .f .given .1)) in
+    let e = rows-are _ _ _ _ _ (is (g .before .before .rows .ensures) (g .g .given .1)) .1 in
+    (omega arith, omega arith, omega arith, at-count .before .before .pre .1)
+
+returns-3 : tie.Need-returns-3
+returns-3 c =
+    let g = c .before .before in
+    let f = g .before .before .before .before in
+    let n = counted-inv _ _ _ _ (is (f .before .before .count-at .ensures) (f .f .given .1)) in
+    let e = rows-are _ _ _ _ _ (is (g .before .before .rows .ensures) (g .g .given .1)) .1 in
+    (search rows-h, (c .from-members .ensures .1 .0, laid-on-rows (now (f .before .before .before .before .args .s)) _ _ _ _ _ (c .from-members .ensures .1 .1) (n .0) e))
+
+pub from-rows-spec : {M : Type 1} → statement M
+from-rows-spec =
+    tie.close
+    (tie.spec
+    count-at-requires
+    enum-known-f
+    enum-told
+    refusal-requires
+    returns
+    add-rows
+    rows-requires
+    enum-known-g
+    enum-told-2
+    refusal-requires-2
+    returns-2
+    add-from-members
+    from-members-requires
+    returns-3)

@@ -1,0 +1,46 @@
+use native.Mathlib.Omega.{arith}
+use borrow.Author.Needs.{needs}
+use Rattle.profile.proofs.Found.{part-none, part-room, part-some}
+use Rattle.profile.proofs.stored_part.Statement.{statement}
+use Rattle.profile.proofs.stored_part.Tie as tie
+
+returns : tie.Need-returns
+returns c = search part-none
+
+mul-wide16 : tie.Need-mul-wide16
+mul-wide16 c = search needs
+
+element-copy-out-wide16 : tie.Need-element-copy-out-wide16
+element-copy-out-wide16 c = search needs
+
+wide16-requires : tie.Need-wide16-requires
+wide16-requires c κs = search needs
+
+number-requires : tie.Need-number-requires
+number-requires c κs = search part-room
+
+add-t8 : tie.Need-add-t8
+add-t8 c = omega (arith, part-room _ _ _ (c .before .before .before .before .before .pre .0) _ _ (c .before .before .before .if1 .left) (c .before .wide16 .ensures))
+
+cast-t12 : tie.Need-cast-t12
+cast-t12 c = omega (arith, part-room _ _ _ (c .before .before .before .before .before .pre .0) _ _ (c .before .before .before .if1 .left) (c .before .wide16 .ensures))
+
+cast-t13 : tie.Need-cast-t13
+cast-t13 c = search needs
+
+returns-2 : tie.Need-returns-2
+returns-2 c = search part-some
+
+pub stored-part-spec : {M : Type 1} → statement M
+stored-part-spec =
+    tie.close
+    (tie.spec
+    returns
+    mul-wide16
+    element-copy-out-wide16
+    wide16-requires
+    number-requires
+    add-t8
+    cast-t12
+    cast-t13
+    returns-2)

@@ -1,0 +1,38 @@
+use borrow.Author.Needs.{needs}
+use Rattle.profile.proofs.Found.{bytes-none, bytes-some}
+use Rattle.profile.proofs.Uses.{inside-at}
+use Rattle.profile.proofs.string_bytes.Statement.{statement}
+use Rattle.profile.proofs.string_bytes.Tie as tie
+
+slice-aggregate-result : tie.Need-slice-aggregate-result
+slice-aggregate-result c = search needs
+
+returns : tie.Need-returns
+returns c = search bytes-none
+
+mul-wide16 : tie.Need-mul-wide16
+mul-wide16 c = search needs
+
+element-copy-out-wide16 : tie.Need-element-copy-out-wide16
+element-copy-out-wide16 c = search needs
+
+wide16-requires : tie.Need-wide16-requires
+wide16-requires c κs = search needs
+
+text-requires : tie.Need-text-requires
+text-requires c κs = search inside-at
+
+returns-2 : tie.Need-returns-2
+returns-2 c = search bytes-some
+
+pub string-bytes-spec : {M : Type 1} → statement M
+string-bytes-spec =
+    tie.close
+    (tie.spec
+    slice-aggregate-result
+    returns
+    mul-wide16
+    element-copy-out-wide16
+    wide16-requires
+    text-requires
+    returns-2)
