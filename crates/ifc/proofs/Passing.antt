@@ -1,0 +1,52 @@
+-- What the layers below promise of an answer, passed on part by part.
+use mathlib.Core.Bool.{Bool, true, false}
+use mathlib.Core.List.{List}
+use mathlib.Core.Path.{_≡_, refl, ap, _∙_}
+use Prim.Native.Nat.{ℕ}
+use Rattle.profile.specs.Lookups.{Checks, Serves, Informs}
+use Rattle.profile.specs.declared.Checked.{Checked}
+use Rattle.profile.specs.declared.Lookup.{Lookup}
+use Rattle.session.specs.Session.{Opens, Reports}
+use Rattle.session.specs.declared.Opened.{Opened}
+use Rattle.session.specs.declared.Reported.{Reported}
+use Rattle.ifc.specs.Exports.{as-number, session-of, CheckTo, OpenTo, ReportTo, ServerTo, InformationTo}
+
+pub passes-check : {image : List ℕ} {a : Checked} → Checks image a → CheckTo image (a .refusal) (a .place)
+passes-check h = record { number-is = ap (λ (x : Checked). x .refusal) (h .answer); place-is = ap (λ (x : Checked). x .place) (h .answer) }
+
+pub passes-open : {wanted : ℕ} {a : Opened} → Opens wanted a
+    → OpenTo wanted (a .refusal) (a .session .case) (a .session .state) (a .session .forwarded) (a .session .last) (a .session .handling)
+passes-open h =
+    record {
+      number-is = ap (λ (x : Opened). x .refusal) (h .answer);
+      case-is = ap (λ (x : Opened). x .session .case) (h .answer);
+      state-is = ap (λ (x : Opened). x .session .state) (h .answer);
+      forwarded-is = ap (λ (x : Opened). x .session .forwarded) (h .answer);
+      last-is = ap (λ (x : Opened). x .session .last) (h .answer);
+      handling-is = ap (λ (x : Opened). x .session .handling) (h .answer);
+    }
+
+pub passes-report : {case before forwarded last handling report : ℕ} {a : Reported}
+    → Reports (session-of case before forwarded last handling) report a
+    → ReportTo case before forwarded last handling report (a .refusal) (a .session .state)
+passes-report h = record { number-is = ap (λ (x : Reported). x .refusal) (h .answer); state-is = ap (λ (x : Reported). x .session .state) (h .answer) }
+
+pub passes-server : {image : List ℕ} {i : ℕ} {a : Lookup} → Serves image i a → ServerTo image i (a .refusal) (a .place) (a .start) (a .length)
+passes-server h =
+    record {
+      number-is = ap (λ (x : Lookup). x .refusal) (h .answer);
+      place-is = ap (λ (x : Lookup). x .place) (h .answer);
+      start-is = ap (λ (x : Lookup). x .start) (h .answer);
+      length-is = ap (λ (x : Lookup). x .length) (h .answer);
+    }
+
+pub passes-information : {image : List ℕ} {i n : ℕ} {a : Lookup} → Informs image i a → n ≡ as-number (a .present)
+    → InformationTo image i (a .refusal) (a .place) n (a .start) (a .length)
+passes-information h e =
+    record {
+      number-is = ap (λ (x : Lookup). x .refusal) (h .answer);
+      place-is = ap (λ (x : Lookup). x .place) (h .answer);
+      present-is = e ∙ ap (λ (x : Lookup). as-number (x .present)) (h .answer);
+      start-is = ap (λ (x : Lookup). x .start) (h .answer);
+      length-is = ap (λ (x : Lookup). x .length) (h .answer);
+    }

@@ -1,0 +1,52 @@
+-- What each exported call returns and leaves in the lent numbers: the parts, one by one, of what the layers below answer.
+use mathlib.Core.Bool.{Bool}
+use mathlib.Core.List.{List}
+use mathlib.Core.Path.{_≡_}
+use Prim.Native.Nat.{ℕ}
+use Rattle.octets.specs.Lists.{pick}
+use Rattle.profile.specs.Lookups.{check, server, information}
+use Rattle.session.specs.Session.{open-session, report-session}
+use Rattle.session.specs.declared.Session.{Session}
+
+-- yes is 1, no is 0
+abbrev pub as-number : Bool → ℕ
+as-number b = pick b 1 0
+
+-- the check: the fault's number and place, 0 and 0 if there is none
+pub record CheckTo (image : List ℕ) (number place : ℕ) : Type 0 where
+  pub number-is : number ≡ check image .refusal
+  pub place-is : place ≡ check image .place
+
+-- opening: the session's five numbers, also on a refusal ("a finished session of case 0")
+pub record OpenTo (wanted number case state forwarded last handling : ℕ) : Type 0 where
+  pub number-is : number ≡ open-session wanted .refusal
+  pub case-is : case ≡ open-session wanted .session .case
+  pub state-is : state ≡ open-session wanted .session .state
+  pub forwarded-is : forwarded ≡ open-session wanted .session .forwarded
+  pub last-is : last ≡ open-session wanted .session .last
+  pub handling-is : handling ≡ open-session wanted .session .handling
+
+-- the session that five numbers say
+abbrev pub session-of : ℕ → ℕ → ℕ → ℕ → ℕ → Session
+session-of case state forwarded last handling =
+    record { case = case; state = state; forwarded = forwarded; last = last; handling = handling }
+
+-- the report: of a session only the state changes, so only the state is lent
+pub record ReportTo (case before forwarded last handling report number state : ℕ) : Type 0 where
+  pub number-is : number ≡ report-session (session-of case before forwarded last handling) report .refusal
+  pub state-is : state ≡ report-session (session-of case before forwarded last handling) report .session .state
+
+-- a criterion's server name: its place and length in the image
+pub record ServerTo (image : List ℕ) (criterion number place start length : ℕ) : Type 0 where
+  pub number-is : number ≡ server image criterion .refusal
+  pub place-is : place ≡ server image criterion .place
+  pub start-is : start ≡ server image criterion .start
+  pub length-is : length ≡ server image criterion .length
+
+-- its service information: whether it is there, its place and length in the image
+pub record InformationTo (image : List ℕ) (criterion number place present start length : ℕ) : Type 0 where
+  pub number-is : number ≡ information image criterion .refusal
+  pub place-is : place ≡ information image criterion .place
+  pub present-is : present ≡ as-number (information image criterion .present)
+  pub start-is : start ≡ information image criterion .start
+  pub length-is : length ≡ information image criterion .length

@@ -1,0 +1,108 @@
+// The calls as C makes them: numbers and bytes in, numbers out. Nothing but passing on.
+ghost use mathlib.Core.Path.{_≡_};
+ghost use Rattle.ifc.specs.Exports.{CheckTo, OpenTo, ReportTo, ServerTo, InformationTo, as-number};
+use profile::Checked;
+use profile::Lookup;
+use profile::check;
+use profile::information;
+use profile::server;
+use session::Opened;
+use session::Reported;
+use session::Session;
+use session::open;
+use session::report as report_on;
+
+#[no_mangle]
+pub extern "C" fn ifc_check(image: &[u8], place: &mut u32) -> u32
+    ensures { λ r. ⌜ CheckTo (now (image .entry)) r (now (place .exit)) ⌝ }
+{
+    let checked = check(image);
+    *place = checked.place;
+    checked.refusal
+}
+
+#[no_mangle]
+pub extern "C" fn ifc_open(
+    wanted: u32,
+    case: &mut u32,
+    state: &mut u32,
+    forwarded: &mut u32,
+    last: &mut u32,
+    handling: &mut u32,
+) -> u32
+    ensures { λ r. ⌜ OpenTo wanted r (now (case .exit)) (now (state .exit)) (now (forwarded .exit)) (now (last .exit)) (now (handling .exit)) ⌝ }
+{
+    let opened = open(wanted);
+    *case = opened.session.case;
+    *state = opened.session.state;
+    *forwarded = opened.session.forwarded;
+    *last = opened.session.last;
+    *handling = opened.session.handling;
+    opened.refusal
+}
+
+#[no_mangle]
+pub extern "C" fn ifc_report(
+    case: u32,
+    state: &mut u32,
+    forwarded: u32,
+    last: u32,
+    handling: u32,
+    report: u32,
+) -> u32
+    ensures { λ r. ⌜ ReportTo case (now (state .entry)) forwarded last handling report r (now (state .exit)) ⌝ }
+{
+    let x = Session {
+        case,
+        state: *state,
+        forwarded,
+        last,
+        handling,
+    };
+    let reported = report_on(x, report);
+    *state = reported.session.state;
+    reported.refusal
+}
+
+#[no_mangle]
+pub extern "C" fn ifc_server(
+    image: &[u8],
+    criterion: u32,
+    place: &mut u32,
+    start: &mut u32,
+    length: &mut u32,
+) -> u32
+    ensures { λ r. ⌜ ServerTo (now (image .entry)) criterion r (now (place .exit)) (now (start .exit)) (now (length .exit)) ⌝ }
+{
+    let name = server(image, criterion);
+    *place = name.place;
+    *start = name.start;
+    *length = name.length;
+    name.refusal
+}
+
+// Yes and no as C has them.
+fn one_if(b: bool) -> u32
+    ensures { λ r. ⌜ r ≡ as-number b ⌝ }
+{
+    if b { 1 } else { 0 }
+}
+
+#[no_mangle]
+pub extern "C" fn ifc_information(
+    image: &[u8],
+    criterion: u32,
+    place: &mut u32,
+    present: &mut u32,
+    start: &mut u32,
+    length: &mut u32,
+) -> u32
+    ensures { λ r. ⌜ InformationTo (now (image .entry)) criterion r (now (place .exit)) (now (present .exit)) (now (start .exit)) (now (length .exit)) ⌝ }
+{
+    let info = information(image, criterion);
+    *place = info.place;
+    *present = one_if(info.present);
+    *start = info.start;
+    *length = info.length;
+    info.refusal
+}

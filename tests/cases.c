@@ -1,0 +1,142 @@
+/* cases CASES KEPT ANSWERS: runs a case file of the second program through libifc.a. Writes the cases that the library has calls
+ * for to KEPT and what it answered to ANSWERS, for `second compare KEPT ANSWERS`.
+ *
+ * Each case is run twice: the image ends where an inaccessible page begins, then begins where one ends. A byte read outside it
+ * stops the program; two answers that differ do, too. */
+#include <stddef.h>
+#include <stdint.h>
+#include <stdio.h>
+#include <stdlib.h>
+#include <string.h>
+#include <sys/mman.h>
+#include "../include/ifc.h"
+
+enum { PAGE = 4096, ROOM = 131072, MOST = 16 };
+enum { CHECK, OPEN, ADVANCE, REPORT, LIST, SERVER, INFORMATION };
+
+static void stop(const char *why) {
+    fprintf(stderr, "cases: %s\n", why);
+    exit(2);
+}
+
+/* ---- files of big-endian numbers */
+
+static uint32_t number(FILE *in) {
+    uint8_t b[4];
+    if (fread(b, 1, 4, in) != 4) stop("the case file is cut short");
+    return (uint32_t)b[0] << 24 | (uint32_t)b[1] << 16 | (uint32_t)b[2] << 8 | b[3];
+}
+
+static void put(FILE *out, uint32_t n) {
+    uint8_t b[4] = {(uint8_t)(n >> 24), (uint8_t)(n >> 16), (uint8_t)(n >> 8), (uint8_t)n};
+    if (fwrite(b, 1, 4, out) != 4) stop("cannot write");
+}
+
+struct bytes {
+    uint32_t length;
+    uint8_t at[ROOM];
+};
+
+static void bytes(FILE *in, struct bytes *to) {
+    to->length = number(in);
+    if (to->length > ROOM) stop("a part of a case is too long");
+    if (fread(to->at, 1, to->length, in) != to->length) stop("the case file is cut short");
+}
+
+static void put_bytes(FILE *out, const struct bytes *from) {
+    put(out, from->length);
+    if (fwrite(from->at, 1, from->length, out) != from->length) stop("cannot write");
+}
+
+static void put_numbers(FILE *out, const uint32_t *n, uint32_t count) {
+    put(out, count);
+    for (uint32_t i = 0; i < count; i++) put(out, n[i]);
+}
+
+/* ---- one case */
+
+struct one {
+    uint32_t call, count;
+    uint32_t n[MOST];
+    struct bytes label, image, request, list;
+};
+
+static void read_one(FILE *in, struct one *c) {
+    c->call = number(in);
+    bytes(in, &c->label);
+    bytes(in, &c->image);
+    bytes(in, &c->request);
+    bytes(in, &c->list);
+    c->count = number(in);
+    if (c->count > MOST) stop("a case has too many numbers");
+    for (uint32_t i = 0; i < c->count; i++) c->n[i] = number(in);
+}
+
+static void keep(FILE *kept, const struct one *c) {
+    put(kept, c->call);
+    put_bytes(kept, &c->label);
+    put_bytes(kept, &c->image);
+    put_bytes(kept, &c->request);
+    put_bytes(kept, &c->list);
+    put_numbers(kept, c->n, c->count);
+}
+
+static int has(uint32_t call) {
+    return call == CHECK || call == OPEN || call == REPORT || call == SERVER || call == INFORMATION;
+}
+
+static uint32_t call(const struct one *c, const uint8_t *image, uint32_t *n) {
+    size_t length = c->image.length;
+    switch (c->call) {
+    case CHECK: return ifc_check(image, length, &n[0]);
+    case OPEN: return ifc_open(n[0], &n[1], &n[2], &n[3], &n[4], &n[5]);
+    case REPORT: return ifc_report(n[0], &n[1], n[2], n[3], n[4], n[5]);
+    case SERVER: return ifc_server(image, length, n[0], &n[1], &n[2], &n[3]);
+    default: return ifc_information(image, length, n[0], &n[1], &n[2], &n[3], &n[4]);
+    }
+}
+
+/* ---- a room between two inaccessible pages */
+
+static uint8_t *room(void) {
+    uint8_t *all = mmap(NULL, ROOM + 2 * PAGE, PROT_READ | PROT_WRITE, MAP_PRIVATE | MAP_ANONYMOUS, -1, 0);
+    if (all == MAP_FAILED) stop("no memory");
+    if (mprotect(all, PAGE, PROT_NONE) || mprotect(all + PAGE + ROOM, PAGE, PROT_NONE)) stop("no guard pages");
+    return all + PAGE;
+}
+
+int main(int argc, char **argv) {
+    static struct one c;
+    if (argc != 4) stop("cases CASES KEPT ANSWERS");
+    FILE *in = fopen(argv[1], "rb"), *kept = fopen(argv[2], "wb"), *answers = fopen(argv[3], "wb");
+    if (!in || !kept || !answers) stop("cannot open a file");
+    uint8_t *lent = room();
+    uint32_t had = 0;
+    if (number(in) != 0x49464343) stop("not a case file");
+    uint32_t count = number(in);
+    put(kept, 0x49464343), put(kept, 0);
+    put(answers, 0x49464341), put(answers, 0);
+    for (uint32_t i = 0; i < count; i++) {
+        uint32_t at_end[MOST], at_start[MOST];
+        read_one(in, &c);
+        if (!has(c.call)) continue;
+        memcpy(at_end, c.n, sizeof at_end);
+        memcpy(at_start, c.n, sizeof at_start);
+        uint8_t *image = lent + ROOM - c.image.length;
+        memcpy(image, c.image.at, c.image.length);
+        uint32_t first = call(&c, image, at_end);
+        memcpy(lent, c.image.at, c.image.length);
+        uint32_t second = call(&c, lent, at_start);
+        if (first != second || memcmp(at_end, at_start, sizeof at_end)) stop("one case has two answers");
+        had++;
+        keep(kept, &c);
+        put(answers, first);
+        put_bytes(answers, &c.list);
+        put_numbers(answers, at_end, c.count);
+    }
+    fseek(kept, 4, SEEK_SET), put(kept, had);
+    fseek(answers, 4, SEEK_SET), put(answers, had);
+    if (fclose(kept) || fclose(answers)) stop("cannot write");
+    printf("%u of %u cases have a call in the library\n", had, count);
+    return 0;
+}
