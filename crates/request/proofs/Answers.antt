@@ -109,3 +109,12 @@ module _ (s starts colons : List ℕ) (j : Judged) (ej : j ≡ judged (head-of s
               k .colons-are ∙ ap (λ (i : ℕ). line-colons f ls ++ drop i colons) (k .count ∙ sym (colons-length f ls))
               ∙ sym (ap (λ (o : Option Request). over (colons-of (head-of s) o) colons) (a .read) ∙ (λ i. over (line-colons (start i) (lines i)) colons));
         }
+
+-- ---- for callers: an unreadable request is none
+
+unread : (h : List ℕ) (o : Option Request) → Unreadable ≡ reading h o → o ≡ none
+unread h none e = refl
+unread h (some q) e = let z : _≡_ {A = ℕ} 0 1 = cc in absurd (omega arith)
+
+pub read-none : (s starts colons starts′ colons′ : List ℕ) → Read s starts colons starts′ colons′ Unreadable → read-request s ≡ none
+read-none s starts colons starts′ colons′ k = unread (head-of s) (read-request s) (k .answer)

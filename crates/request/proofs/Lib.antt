@@ -2,6 +2,7 @@ pub mod Accepted
 pub mod Answers
 pub mod BodyLines
 pub mod Cuts
+pub mod Few
 pub mod Fields
 pub mod Filling
 pub mod Head

@@ -24,12 +24,12 @@ use Rattle.request.proofs.Search.{before-length}
 -- ---- the fields of the lines
 
 -- the first line is a field, and so are the others
-record Cons (l : List ℕ) (ls : List (List ℕ)) (fs : List Field) : Type 0 where
-  one : Field
-  one-is : field l ≡ some one
-  others : List Field
-  others-are : all-fields ls ≡ some others
-  all-are : fs ≡ one ∷ others
+pub record Cons (l : List ℕ) (ls : List (List ℕ)) (fs : List Field) : Type 0 where
+  pub one : Field
+  pub one-is : field l ≡ some one
+  pub others : List Field
+  pub others-are : all-fields ls ≡ some others
+  pub all-are : fs ≡ one ∷ others
 
 cons-by : (l : List ℕ) (ls : List (List ℕ)) (fs : List Field) (o : Option Field) (p : Option (List Field))
     → field l ≡ o → all-fields ls ≡ p → (o >>= λ f. p >>= λ gs. some (f ∷ gs)) ≡ some fs → Cons l ls fs
@@ -40,7 +40,7 @@ cons-by l ls fs (some f) (some gs) eo ep e = record { one = f; one-is = eo; othe
     the-list : (a b : List Field) → some a ≡ some b → a ≡ b
     the-list a b q = cc
 
-cons : (l : List ℕ) (ls : List (List ℕ)) (fs : List Field) → all-fields (l ∷ ls) ≡ some fs → Cons l ls fs
+pub cons : (l : List ℕ) (ls : List (List ℕ)) (fs : List Field) → all-fields (l ∷ ls) ≡ some fs → Cons l ls fs
 unfolding all-fields
 cons l ls fs e = cons-by l ls fs (field l) (all-fields ls) refl refl e
 

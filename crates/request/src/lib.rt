@@ -501,11 +501,11 @@ pub fn next_value(v: &[u8], from: usize) -> Piece
     ensures { λ r. ⌜ r ≡ piece-at (now (v .entry)) from ⌝ }
 {
     let k = piece_end(v, from);
-    let e = from + trimmed_end(&v[from..k]);
-    let a = blanks(&v[from..e]);
+    let stop = from + trimmed_end(&v[from..k]);
+    let a = blanks(&v[from..stop]);
     Piece {
         start: from + a,
-        end: e,
+        end: stop,
         next: k + 1,
     }
 }
