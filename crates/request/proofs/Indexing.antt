@@ -158,7 +158,7 @@ readable-head : (h : List ℕ) (o : Option Request) (m u e n : ℕ) → Readable
 readable-head h none m u e n q = let z : _≡_ {A = ℕ} 0 1 = cc in absurd (omega arith)
 readable-head h (some x) m u e n q = cc
 
-readable-count : (h : List ℕ) (o : Option Request) (m u e n : ℕ) (x : Request) → Readable m u e n ≡ reading h o → o ≡ some x → length (x .fields) ≡ n
+pub readable-count : (h : List ℕ) (o : Option Request) (m u e n : ℕ) (x : Request) → Readable m u e n ≡ reading h o → o ≡ some x → length (x .fields) ≡ n
 readable-count h none m u e n x q r = let z : _≡_ {A = ℕ} 0 1 = cc in absurd (omega arith)
 readable-count h (some y) m u e n x q r = let same : y ≡ x = cc in sym (ap (λ (z : Request). length (z .fields)) same) ∙ cc
 

@@ -8,6 +8,7 @@ pub mod Filling
 pub mod Head
 pub mod Indexing
 pub mod Judging
+pub mod Laws
 pub mod Lines
 pub mod Norm
 pub mod Nth
