@@ -25,6 +25,7 @@ use Rattle.request.proofs.Lines.{line-here, line-next, line-past}
 use Rattle.request.proofs.Norm.{reduced-le}
 use Rattle.request.proofs.Nth.{cons, field-is, colon-in-line, name-token, token-long}
 use Rattle.request.proofs.Parts.{length-part}
+use Rattle.request.proofs.Somes.{some-is}
 use Rattle.request.proofs.Trims.{trim-le}
 
 -- ---- pieces
@@ -74,10 +75,7 @@ field-few l f e =
 
 fields-few : (ls : List (List ℕ)) (fs : List Field) → all-fields ls ≡ some fs → total weight fs ≤ total length ls
 unfolding all-fields
-fields-few [] fs e = let none-left : fs ≡ [] = the-list fs [] (sym e) in subst (λ (gs : List Field). total weight gs ≤ 0) (sym none-left) zero-le
-  where
-    the-list : (a b : List Field) → some a ≡ some b → a ≡ b
-    the-list a b q = cc
+fields-few [] fs e = subst (λ (gs : List Field). total weight gs ≤ 0) (some-is [] fs e) zero-le
 fields-few (l ∷ ls) fs e =
     let k = cons l ls fs e in
     let here : weight (k .one) ≤ length l = field-few l (k .one) (k .one-is) in

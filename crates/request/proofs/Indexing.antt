@@ -30,6 +30,7 @@ use Rattle.request.proofs.Lines.{line-here, line-next, line-past}
 use Rattle.request.proofs.Nth.{Nth, nth, field-is, name-token, colon-in-line, token-long}
 use Rattle.request.proofs.Parts.{drop-take, length-part, part-front}
 use Rattle.request.proofs.Search.{first-le, first-holds, begins-long, before-length}
+use Rattle.request.proofs.Somes.{some-is}
 use Rattle.request.proofs.Trims.{trim-le, trim-front}
 
 -- ---- the end of a field's line
@@ -381,11 +382,8 @@ module _ (s starts colons : List ℕ) (head fields i : ℕ) (x : Indexed s start
 
   pub field-says : (q : Request) → read-request s ≡ some q → FieldSays s q head i (field-parts (head-of s) i)
   field-says q e =
-      let same : a .request ≡ q = the-request (a .request) q (sym (a .read) ∙ e) in
+      let same : a .request ≡ q = some-is (a .request) q (sym (a .read) ∙ e) in
       subst (λ (r : FieldParts). FieldSays s q head i r) (sym parts-so) (subst (λ (y : Request). FieldSays s y head i (parts-of at l)) same says)
-    where
-      the-request : (y z : Request) → some y ≡ some z → y ≡ z
-      the-request y z w = cc
 
 -- what `read` wrote
 pub indexed : (s starts colons starts′ colons′ : List ℕ) (m u head fields i : ℕ) → Read s starts colons starts′ colons′ (Readable m u head fields) → i < fields → Indexed s starts′ colons′ head fields i

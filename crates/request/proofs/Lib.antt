@@ -5,6 +5,7 @@ pub mod Cuts
 pub mod Few
 pub mod Fields
 pub mod Filling
+pub mod From
 pub mod Head
 pub mod Indexing
 pub mod Judging
@@ -14,6 +15,7 @@ pub mod Norm
 pub mod Nth
 pub mod Parts
 pub mod Search
+pub mod Somes
 pub mod StartParts
 pub mod Trims
 pub mod Values
