@@ -15,7 +15,7 @@ use Rattle.octets.proofs.Tests.{either}
 use Rattle.request.specs.Body.{Line, ended, line, lines, session-lines}
 use Rattle.request.specs.Cutting.{push, cut-by, cut-at}
 use Rattle.request.specs.Places.{part, colon-in}
-use Rattle.request.specs.Request.{Field, paired, field, all-fields}
+use Rattle.request.specs.Request.{Field, paired, name-as-matched, field, all-fields}
 use Rattle.request.specs.Searching.{first, line-break}
 use Rattle.request.specs.Steps.{lines-from}
 use Rattle.request.specs.Values.{step, plain, cuts, trim-right, trim, reduced, pieces, never-cut, values-of}
@@ -62,7 +62,7 @@ field-few l f e =
     let name = trim-right (take c l) in
     let raw = drop (c + 1) l in
     let many : length (f .values) ≤ length (reduced raw) + 1 =
-    subst (λ (g : Field). length (g .values) ≤ length (reduced raw) + 1) (sym (field-is l f e)) (values-few name (reduced raw))
+    subst (λ (g : Field). length (g .values) ≤ length (reduced raw) + 1) (sym (field-is l f e)) (values-few (name-as-matched name) (reduced raw))
     in
     let some-name : 0 < length name = token-long name (name-token l f e) in
     let name-short : length name ≤ c = le-trans (trim-le (take c l)) (take-short c l) in
