@@ -25,6 +25,7 @@ use Rattle.request.proofs.Head.{Pairs, pairs, pairs-paired}
 use Rattle.request.proofs.Judging.{Starts, starts, cr, built, head-built, judge-long, judge-endless, judge-bytes, read-by-test, head-is-front}
 use Rattle.request.proofs.Parts.{part-front, length-part}
 use Rattle.request.proofs.Search.{first-le, first-holds, begins-long, head-end}
+use Rattle.request.proofs.Somes.{some-is}
 use Rattle.request.proofs.StartParts.{started, start-no-sp, start-one-sp, start-wrong, start-whole}
 
 -- ---- the start line
@@ -54,9 +55,6 @@ not-bad : (o : Option Start) (t : Start) → o ≡ some t → Bad ≡ start-plac
 not-bad none t e b = let z : _≡_ {A = ℕ} 0 1 = cc in omega arith
 not-bad (some x) t e b = let z : _≡_ {A = ℕ} 0 1 = cc in omega arith
 
-the-start : (t x : Start) → some x ≡ some t → x ≡ t
-the-start t x e = cc
-
 pub start-some : (l : List ℕ) (t : Start) → start-line l ≡ some t → StartsAt l t
 start-some l t e =
     let m = first (begins (32 ∷ [])) l in
@@ -74,7 +72,7 @@ start-some l t e =
                 let at-r = start-whole l m em more u refl further r refl in
                 test-cases r
                 (λ y. starts-at l m u t (omega arith) further
-                (the-start t (record { method = take m l; uri = part l (m + 1) u }) (sym (at-r ∙ ap (started (take m l) (part l (m + 1) u)) y) ∙ e)))
+                (some-is (record { method = take m l; uri = part l (m + 1) u }) t (sym (at-r ∙ ap (started (take m l) (part l (m + 1) u)) y) ∙ e)))
                 (λ n. absurd (not-bad (start-line l) t e (start-wrong l m em more u refl further r refl n)))
           ]
     ]

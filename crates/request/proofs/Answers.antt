@@ -18,6 +18,7 @@ use Rattle.request.specs.declared.Reading.the-variants.{Unreadable, Read
 use Rattle.request.proofs.Accepted.{Accepts, accepts}
 use Rattle.request.proofs.Judging.{all-fields-some}
 use Rattle.request.proofs.Parts.{length-part}
+use Rattle.request.proofs.Somes.{some-is}
 
 -- ---- as many fields as lines
 
@@ -26,17 +27,11 @@ module _ (n : ℕ) where
       → ((gs : List Field) → p ≡ some gs → length gs ≡ n) → (o >>= λ f. p >>= λ l. some (f ∷ l)) ≡ some fs → length fs ≡ suc n
   count-step none p fs h e = let z : _≡_ {A = ℕ} 0 1 = cc in absurd (omega arith)
   count-step (some f) none fs h e = let z : _≡_ {A = ℕ} 0 1 = cc in absurd (omega arith)
-  count-step (some f) (some l) fs h e = ap length (the-list fs (f ∷ l) (sym e)) ∙ ap suc (h l refl)
-    where
-      the-list : (a b : List Field) → some a ≡ some b → a ≡ b
-      the-list a b q = cc
+  count-step (some f) (some l) fs h e = ap length (some-is fs (f ∷ l) (sym e)) ∙ ap suc (h l refl)
 
 pub fields-count : (ls : List (List ℕ)) (fs : List Field) → all-fields ls ≡ some fs → length fs ≡ length ls
 unfolding all-fields
-fields-count [] fs e = ap length (none-left fs e)
-  where
-    none-left : (a : List Field) → some [] ≡ some a → a ≡ []
-    none-left a q = cc
+fields-count [] fs e = ap length (some-is fs [] (sym e))
 fields-count (l ∷ ls) fs e = count-step (length ls) (field l) (all-fields ls) fs (fields-count ls) e
 
 pub starts-length : (at : ℕ) (ls : List (List ℕ)) → length (line-starts at ls) ≡ length ls
@@ -109,3 +104,12 @@ module _ (s starts colons : List ℕ) (j : Judged) (ej : j ≡ judged (head-of s
               k .colons-are ∙ ap (λ (i : ℕ). line-colons f ls ++ drop i colons) (k .count ∙ sym (colons-length f ls))
               ∙ sym (ap (λ (o : Option Request). over (colons-of (head-of s) o) colons) (a .read) ∙ (λ i. over (line-colons (start i) (lines i)) colons));
         }
+
+-- ---- for callers: an unreadable request is none
+
+unread : (h : List ℕ) (o : Option Request) → Unreadable ≡ reading h o → o ≡ none
+unread h none e = refl
+unread h (some q) e = let z : _≡_ {A = ℕ} 0 1 = cc in absurd (omega arith)
+
+pub read-none : (s starts colons starts′ colons′ : List ℕ) → Read s starts colons starts′ colons′ Unreadable → read-request s ≡ none
+read-none s starts colons starts′ colons′ k = unread (head-of s) (read-request s) (k .answer)

@@ -2,11 +2,10 @@
 use mathlib.Core.Bool.{Bool, true, false, _&&_, and-false}
 use mathlib.Core.Path.{_≡_, refl, sym, ap, _∙_, subst}
 use mathlib.Core.List.{List, [], _∷_, _++_}
-use Prim.Native.Nat.{ℕ, zero, suc, _+_, _-_, _≤_, _<_, zero-le}
-use native.Mathlib.Nat.{le-of-eq, le-trans, min-le-right}
+use Prim.Native.Nat.{ℕ, zero, suc, _+_, _-_, _≤_, _<_}
 use native.Mathlib.Omega.{arith}
 use native.Mathlib.Decide.{decLe}
-use lib.ListN.{length, getD, take, drop, length-drop, length-take}
+use lib.ListN.{length, getD, take, drop, length-drop}
 use lib.Dec.{ltb, eqb}
 use lib.Seq.{drop-drop, getD-drop, getD-take, take-all, take-take, take-length, length-take-le}
 use borrow.Author.Tests.{le-leb, lt-leb, lt-ltb, le-ltb, eq-eqb, ne-eqb, eqb-true, eqb-false}
@@ -20,8 +19,9 @@ use Rattle.request.specs.Steps.{ended-line}
 use Rattle.request.specs.declared.BodyLine.{BodyLine}
 use Rattle.request.specs.declared.BodyLine.the-variants.{Typed, Other, Done}
 use Rattle.request.proofs.Cuts.{cut-on, cut-last, nonempty}
-use Rattle.request.proofs.Parts.{length-part, drop-take}
+use Rattle.request.proofs.Parts.{length-part, drop-take, front-by, front-le}
 use Rattle.request.proofs.Search.{first-le}
+use Rattle.request.proofs.From as F
 
 -- ---- the CR before an LF
 
@@ -89,22 +89,17 @@ module _ (b : List ℕ) (from k : ℕ) (pre : (from ≤ k) × (k ≤ length b)) 
 
 -- ---- the line at a place
 
-cr-front-by : (b : ℕ) (s later : List ℕ) (t : Bool) → later ≡ take (length later) s → pick t [] (b ∷ later) ≡ take (length (pick t [] (b ∷ later))) (b ∷ s)
-cr-front-by b s later true h = refl
-cr-front-by b s later false h = ap (λ (r : List ℕ). b ∷ r) h
-
 cr-front : (s : List ℕ) → drop-cr s ≡ take (length (drop-cr s)) s
 unfolding drop-cr
 cr-front [] = refl
-cr-front (b ∷ s) = cr-front-by b s (drop-cr s) (eqb b 13 && empty s) (cr-front s)
+cr-front (b ∷ s) = front-by b s (drop-cr s) (eqb b 13 && empty s) (cr-front s)
 
 ended-front : (t : Bool) (s : List ℕ) → ended-line t s ≡ take (length (ended-line t s)) s
 ended-front true s = cr-front s
 ended-front false s = sym (take-length s)
 
 ended-le : (t : Bool) (s : List ℕ) → length (ended-line t s) ≤ length s
-ended-le t s =
-    le-trans (le-of-eq (ap length (ended-front t s))) (le-trans (le-of-eq (length-take (length (ended-line t s)) s)) (min-le-right (length (ended-line t s)) (length s)))
+ended-le t s = front-le (ended-line t s) s (ended-front t s)
 
 ended-more : (s : List ℕ) (ls : List (List ℕ)) → (ls ≡ [] → ⊥) → ended (s ∷ ls) ≡ drop-cr s ∷ ended ls
 unfolding ended
@@ -150,13 +145,17 @@ unfolding body-line
 line-past b p h =
     sym (ap (λ (t : Bool). pick t (line-places p (first-line (ended (cut-at 10 (drop p b)))) (p + length (first-line (cut-at 10 (drop p b))) + 1)) Done) (lt-leb p (length b) h))
 
+-- the lines that are fields of all from a place on
+abbrev session : List ℕ → List Line
+session r = lines (ended (cut-at 10 r))
+
 pub session-past : (b : List ℕ) (p : ℕ) → length b < p → session-from b p ≡ []
 unfolding session-from
-session-past b p h = ap (λ (t : Bool). pick t (lines (ended (cut-at 10 (drop p b)))) []) (lt-leb p (length b) h)
+session-past = F.from-past session
 
 pub session-start : (b : List ℕ) → session-lines b ≡ session-from b 0
 unfolding session-lines session-from
-session-start b = sym (ap (λ (t : Bool). pick t (lines (ended (cut-at 10 b))) []) (le-leb 0 (length b) zero-le))
+session-start b = sym (F.from-start session b)
 
 -- it runs to the next LF at k, or to the end
 module _ (b : List ℕ) (p : ℕ) (inside : p ≤ length b) (k : ℕ) (k-is : k ≡ p + first (begins (10 ∷ [])) (drop p b)) where
@@ -201,7 +200,7 @@ module _ (b : List ℕ) (p : ℕ) (inside : p ≤ length b) (k : ℕ) (k-is : k 
         ended-are =
             ap ended cut ∙ ended-more whole (cut-at 10 (drop (k + 1) b)) (nonempty 10 (drop (k + 1) b))
             ∙ ap (λ (t : Bool). ended-line t whole ∷ ended (cut-at 10 (drop (k + 1) b))) (sym (lt-ltb k (length b) more));
-        rest-is = sym (ap (λ (t : Bool). pick t (lines (ended (cut-at 10 (drop (k + 1) b)))) []) (le-leb (k + 1) (length b) (omega arith)));
+        rest-is = sym (F.from-here session b (k + 1) (omega arith));
       }
 
   cut-end : length b ≤ k → Cut
@@ -233,8 +232,7 @@ module _ (b : List ℕ) (p : ℕ) (inside : p ≤ length b) (k : ℕ) (k-is : k 
   session-is : session-from b p ≡ line clean ++ session-from b (k + 1)
   unfolding session-from
   session-is =
-      ap (λ (t : Bool). pick t (lines (ended (cut-at 10 r))) []) (le-leb p (length b) inside)
-      ∙ ap lines (cut-here .ended-are) ∙ ap (λ (ls : List Line). line clean ++ ls) (cut-here .rest-is)
+      F.from-here session b p inside ∙ ap lines (cut-here .ended-are) ∙ ap (λ (ls : List Line). line clean ++ ls) (cut-here .rest-is)
 
   clean-le : length clean ≤ k - p
   clean-le = omega (arith, ended-le (ltb k (length b)) whole, long-whole)

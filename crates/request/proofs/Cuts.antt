@@ -2,40 +2,30 @@
 use mathlib.Core.Bool.{Bool, true, false, and-true}
 use mathlib.Core.Path.{_≡_, refl, sym, ap, _∙_}
 use mathlib.Core.List.{List, [], _∷_}
-use Prim.Native.Nat.{ℕ, zero, suc, _+_, _-_, _≤_, _<_, zero-le, suc-le-suc}
-use native.Mathlib.Nat.{zero-add, suc-add, not-suc-le-zero, le-of-suc-le-suc}
+use Prim.Native.Nat.{ℕ, suc, _+_, _-_, _≤_, _<_, zero-le, suc-le-suc}
+use native.Mathlib.Nat.{suc-add}
 use native.Mathlib.Omega.{arith}
 use lib.ListN.{length, take, drop}
-use lib.Dec.{leb, eqb, leb·suc-suc}
+use lib.Dec.{eqb}
 use lib.Seq.{take-all}
-use borrow.Author.Tests.{le-leb, lt-leb, eq-eqb, ne-eqb, eqb-true, eqb-false}
+use borrow.Author.Tests.{eq-eqb, ne-eqb, eqb-true, eqb-false}
 use Rattle.octets.specs.Lists.{pick}
 use Rattle.request.specs.Cutting.{begins, push, cut-by, cut-at}
 use Rattle.request.specs.Places.{part}
 use Rattle.request.specs.Searching.{first, span}
+use Rattle.request.proofs.From as F
 
 -- the pieces from a place on; none past the end
 abbrev pub pieces-from : {M : Type 0} → (M → ℕ → Bool) → (M → ℕ → M) → M → List ℕ → ℕ → List (List ℕ)
-pieces-from stops next again s p = pick (leb p (length s)) (cut-by stops next again (drop p s)) []
+pieces-from stops next again = F.from (cut-by stops next again)
 
 -- `again` is the mode after each cut, as it is at the start
 module _ {M : Type 0} (stops : M → ℕ → Bool) (next : M → ℕ → M) (again : M) (reset : (m : M) (b : ℕ) → stops m b ≡ true → next m b ≡ again) where
   abbrev cuts-from : List ℕ → ℕ → List (List ℕ)
   cuts-from = pieces-from stops next again
 
-  from-suc : (b : ℕ) (s : List ℕ) (p : ℕ) → cuts-from (b ∷ s) (suc p) ≡ cuts-from s p
-  from-suc b s p = ap (λ (t : Bool). pick t (cut-by stops next again (drop p s)) []) (leb·suc-suc p (length s))
-
-  from-drop : (s : List ℕ) (p q : ℕ) → p ≤ length s → cuts-from (drop p s) q ≡ cuts-from s (p + q)
-  from-drop s zero q h = ap (cuts-from s) (sym (zero-add q))
-  from-drop [] (suc p) q h = absurd (not-suc-le-zero h)
-  from-drop (b ∷ s) (suc p) q h = from-drop s p q (le-of-suc-le-suc h) ∙ sym (from-suc b s (p + q)) ∙ ap (cuts-from (b ∷ s)) (sym (suc-add p q))
-
-  pub from-start : (s : List ℕ) → cuts-from s 0 ≡ cut-by stops next again s
-  from-start s = ap (λ (t : Bool). pick t (cut-by stops next again s) []) (le-leb 0 (length s) zero-le)
-
-  pub from-past : (s : List ℕ) (p : ℕ) → length s < p → cuts-from s p ≡ []
-  from-past s p h = ap (λ (t : Bool). pick t (cut-by stops next again (drop p s)) []) (lt-leb p (length s) h)
+  abbrev all : List ℕ → List (List ℕ)
+  all = cut-by stops next again
 
   pub span-yes : (m : M) (b : ℕ) (s : List ℕ) → stops m b ≡ true → span stops next m (b ∷ s) ≡ 0
   unfolding span
@@ -67,12 +57,12 @@ module _ {M : Type 0} (stops : M → ℕ → Bool) (next : M → ℕ → M) (aga
   splits-by m b s h true e =
       by-stop m b s true e
       ∙ ap (λ (n : M). [] ∷ cut-by stops next n s) (reset m b e)
-      ∙ ap (λ (ls : List (List ℕ)). [] ∷ ls) (sym (from-start s) ∙ sym (from-suc b s 0))
+      ∙ ap (λ (ls : List (List ℕ)). [] ∷ ls) (sym (F.from-start all s) ∙ sym (F.from-suc all b s 0))
       ∙ sym (ap (λ (k : ℕ). take k (b ∷ s) ∷ cuts-from (b ∷ s) (k + 1)) (span-yes m b s e))
   splits-by m b s h false e =
       let k = span stops next (next m b) s in
       by-stop m b s false e ∙ ap (push b) h
-      ∙ ap (λ (ls : List (List ℕ)). (b ∷ take k s) ∷ ls) (sym (from-suc b s (k + 1)) ∙ ap (cuts-from (b ∷ s)) (sym (suc-add k 1)))
+      ∙ ap (λ (ls : List (List ℕ)). (b ∷ take k s) ∷ ls) (sym (F.from-suc all b s (k + 1)) ∙ ap (cuts-from (b ∷ s)) (sym (suc-add k 1)))
       ∙ sym (ap (λ (j : ℕ). take j (b ∷ s) ∷ cuts-from (b ∷ s) (j + 1)) (span-no m b s e))
 
   pub splits : (m : M) (s : List ℕ) → Splits m s
@@ -86,8 +76,8 @@ module _ {M : Type 0} (stops : M → ℕ → Bool) (next : M → ℕ → M) (aga
       let k = span stops next again (drop p s) in
       let on : p + (k + 1) ≡ e + 1 = omega arith in
       let long : k ≡ e - p = omega arith in
-      ap (λ (t : Bool). pick t (cut-by stops next again (drop p s)) []) (le-leb p (length s) h) ∙ splits again (drop p s)
-      ∙ ap (λ (ls : List (List ℕ)). take k (drop p s) ∷ ls) (from-drop s p (k + 1) h ∙ ap (cuts-from s) on)
+      F.from-here all s p h ∙ splits again (drop p s)
+      ∙ ap (λ (ls : List (List ℕ)). take k (drop p s) ∷ ls) (F.from-drop all s p (k + 1) h ∙ ap (cuts-from s) on)
       ∙ ap (λ (j : ℕ). take j (drop p s) ∷ cuts-from s (e + 1)) long
 
 -- ---- at every byte c
@@ -127,14 +117,14 @@ module _ (c : ℕ) where
       let k = first (begins (c ∷ [])) s in
       splits is-c stay tt same-mode tt s
       ∙ ap (λ (j : ℕ). take j s ∷ pieces-from is-c stay tt s (j + 1)) (span-first s)
-      ∙ ap (λ (t : Bool). take k s ∷ pick t (cut-at c (drop (k + 1) s)) []) (le-leb (k + 1) (length s) (omega arith))
+      ∙ ap (λ (ls : List (List ℕ)). take k s ∷ ls) (F.from-here (cut-by is-c stay tt) s (k + 1) (omega arith))
 
   pub cut-last : (s : List ℕ) → length s ≤ first (begins (c ∷ [])) s → cut-at c s ≡ s ∷ []
   cut-last s h =
       let k = first (begins (c ∷ [])) s in
       splits is-c stay tt same-mode tt s
       ∙ ap (λ (j : ℕ). take j s ∷ pieces-from is-c stay tt s (j + 1)) (span-first s)
-      ∙ ap (λ (ls : List (List ℕ)). take k s ∷ ls) (from-past is-c stay tt same-mode s (k + 1) (omega arith))
+      ∙ ap (λ (ls : List (List ℕ)). take k s ∷ ls) (F.from-past (cut-by is-c stay tt) s (k + 1) (omega arith))
       ∙ ap (λ (l : List ℕ). l ∷ []) (take-all k s h)
 
   pub nonempty : (s : List ℕ) → cut-at c s ≡ [] → ⊥

@@ -14,12 +14,13 @@ use Rattle.octets.specs.Bytes.{token}
 use Rattle.octets.specs.Lists.{every, empty}
 use Rattle.octets.specs.Option.{_>>=_, holds}
 use Rattle.request.specs.Cutting.{Cut, begins}
-use Rattle.request.specs.Places.{part}
+use Rattle.request.specs.Places.{part, line-starts, colon-in, line-colons}
 use Rattle.request.specs.Request.{Field, paired, name-as-matched, field}
 use Rattle.request.specs.Searching.{first, line-break, word-byte}
 use Rattle.request.specs.Steps.{is-some, is-field, lines-from}
 use Rattle.request.specs.Values.{trim-right, reduced, values-of}
 use Rattle.request.proofs.Lines.{line-here, line-next, line-past}
+use Rattle.request.proofs.Parts.{length-part}
 use Rattle.request.proofs.Search.{first-le, cut-found, cut-missing}
 use Rattle.request.proofs.Trims.{trim-front, trim-le}
 
@@ -85,10 +86,26 @@ module _ (h : List ℕ) (p e : ℕ) (inside : p ≤ length h) (e-is : e ≡ p + 
   pub end-inside : e ≤ length h
   end-inside = omega (arith, first-le line-break (drop p h), length-drop p h)
 
+  pub line-long : length (part h p e) ≡ e - p
+  line-long = length-part h p e end-order end-inside
+
+  line-after : p + length (part h p e) + 2 ≡ e + 2
+  line-after = omega (arith, line-long, end-order)
+
   pub colon-small : (k : ℕ) → k ≡ 0 + first (begins (58 ∷ [])) (drop 0 (part h p e)) → p + k ≤ length h
-  colon-small k k-is =
-      let long : length (part h p e) ≡ e - p = length-take-le (e - p) (drop p h) (omega (arith, end-inside, length-drop p h)) in
-      omega (arith, k-is, first-le (begins (58 ∷ [])) (part h p e), long, end-inside, end-order)
+  colon-small k k-is = omega (arith, k-is, first-le (begins (58 ∷ [])) (part h p e), line-long, end-inside, end-order)
+
+  -- the places of the lines from p on: those of this line, and those from the next on
+  module _ (right : T (paired 0 (drop p h))) where
+    pub starts-here : line-starts p (lines-from h p) ≡ p ∷ line-starts (e + 2) (lines-from h (e + 2))
+    unfolding line-starts
+    starts-here = ap (line-starts p) (line-here h p e inside right e-is) ∙ ap (λ (k : ℕ). p ∷ line-starts k (lines-from h (e + 2))) line-after
+
+    pub colons-here : line-colons p (lines-from h p) ≡ (p + colon-in (part h p e)) ∷ line-colons (e + 2) (lines-from h (e + 2))
+    unfolding line-colons
+    colons-here =
+        ap (line-colons p) (line-here h p e inside right e-is)
+        ∙ ap (λ (k : ℕ). (p + colon-in (part h p e)) ∷ line-colons k (lines-from h (e + 2))) line-after
 
   module _ (from : ℕ) (k : Checking h from p) (r : Bool) (er : r ≡ is-field (part h p e)) where
     here : every is-field (lines-from h from) ≡ (r && every is-field (lines-from h (e + 2)))

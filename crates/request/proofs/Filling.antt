@@ -2,13 +2,12 @@
 use mathlib.Core.Bool.{_&&_}
 use mathlib.Core.Path.{_≡_, sym, ap, _∙_, subst}
 use mathlib.Core.List.{List, [], _∷_}
-use Prim.Native.Nat.{ℕ, _+_, _-_, _*_, _≤_, _<_}
+use Prim.Native.Nat.{ℕ, _+_, _*_, _≤_, _<_}
 use native.Mathlib.Nat.{zero-add}
 use native.Mathlib.Omega.{arith}
 use native.Mathlib.Decide.{decLe}
 use lib.Dec.{T}
-use lib.ListN.{length, take, drop, set, length-drop}
-use lib.Seq.{length-take-le}
+use lib.ListN.{length, take, drop, set}
 use Rattle.octets.specs.Bytes.{token}
 use Rattle.octets.specs.Lists.{every}
 use Rattle.octets.proofs.Tests.{left, right}
@@ -18,7 +17,7 @@ use Rattle.request.specs.Request.{paired}
 use Rattle.request.specs.Searching.{first, line-break}
 use Rattle.request.specs.Steps.{is-some, is-field, lines-from, Fillable, Filled}
 use Rattle.request.specs.Values.{trim-right}
-use Rattle.request.proofs.Fields.{field-at, field-no-colon, field-named, some-holds, end-order, end-inside}
+use Rattle.request.proofs.Fields.{field-at, field-no-colon, field-named, some-holds, end-inside, line-long, starts-here, colons-here}
 use Rattle.request.proofs.Lines.{line-here, line-next, line-past}
 use Rattle.request.proofs.Search.{before-length}
 use Rattle.request.proofs.Writing.{Written, written-start, written-put, written-end, written-length}
@@ -92,12 +91,6 @@ module _ (h : List ℕ) (from : ℕ) (starts colons starts′ colons′ : List �
     lines-are : lines-from h p ≡ line ∷ lines-from h (e + 2)
     lines-are = line-here h p e inside (f .paired-on) e-is
 
-    long : length line ≡ e - p
-    long = length-take-le (e - p) (drop p h) (omega (arith, end-inside h p e inside e-is, length-drop p h))
-
-    after : p + length line + 2 ≡ e + 2
-    after = omega (arith, long, end-order h p e inside e-is)
-
     fields-are : T (is-field line && every is-field (lines-from h (e + 2)))
     fields-are = subst (λ (ls : List (List ℕ)). T (every is-field ls)) lines-are (f .fields)
 
@@ -107,22 +100,20 @@ module _ (h : List ℕ) (from : ℕ) (starts colons starts′ colons′ : List �
       k-colon = before-length (58 ∷ []) line ∙ omega (arith, k-is)
 
       pub filling-next : Filling h from starts colons (set starts′ n p) (set colons′ n (p + k)) (e + 2) (n + 1)
-      unfolding line-starts line-colons
       filling-next = record {
         inside = omega (arith, end-inside h p e inside e-is);
         paired-on = line-next h p e inside (f .paired-on) e-is;
         fields = right (is-field line) (every is-field (lines-from h (e + 2))) fields-are;
-        few = omega (arith, f .few, field-long line (left (is-field line) (every is-field (lines-from h (e + 2))) fields-are), long);
+        few = omega (arith, f .few, field-long line (left (is-field line) (every is-field (lines-from h (e + 2))) fields-are), line-long h p e inside e-is);
         count = omega (arith, f .count, ap length lines-are);
         starts-so =
             written-put
-            (subst (Written (line-starts from (lines-from h from)) starts starts′ n)
-            (ap (line-starts p) lines-are ∙ ap (λ (j : ℕ). p ∷ line-starts j (lines-from h (e + 2))) after) (f .starts-so))
+            (subst (Written (line-starts from (lines-from h from)) starts starts′ n) (starts-here h p e inside e-is (f .paired-on)) (f .starts-so))
             (let j = n-few in omega (arith, pre .starts-room));
         colons-so =
             written-put
             (subst (Written (line-colons from (lines-from h from)) colons colons′ n)
-            (ap (line-colons p) lines-are ∙ (λ i. (p + k-colon i) ∷ line-colons (after i) (lines-from h (e + 2)))) (f .colons-so))
+            (colons-here h p e inside e-is (f .paired-on) ∙ ap (λ (j : ℕ). (p + j) ∷ line-colons (e + 2) (lines-from h (e + 2))) k-colon) (f .colons-so))
             (let j = n-few in omega (arith, pre .colons-room));
       }
 

@@ -25,11 +25,12 @@ use Rattle.request.specs.declared.Judged.the-variants.{Accepted}
 use Rattle.request.specs.declared.Reading.the-variants.{Readable}
 use Rattle.request.proofs.Accepted.{Accepts, accepts}
 use Rattle.request.proofs.Answers.{fields-count, starts-length, colons-length}
-use Rattle.request.proofs.Fields.{end-order, end-inside}
+use Rattle.request.proofs.Fields.{end-order, end-inside, line-long, starts-here, colons-here}
 use Rattle.request.proofs.Lines.{line-here, line-next, line-past}
 use Rattle.request.proofs.Nth.{Nth, nth, field-is, name-token, colon-in-line, token-long}
 use Rattle.request.proofs.Parts.{drop-take, length-part, part-front}
 use Rattle.request.proofs.Search.{first-le, first-holds, begins-long, before-length}
+use Rattle.request.proofs.Somes.{some-is}
 use Rattle.request.proofs.Trims.{trim-le, trim-front}
 
 -- ---- the end of a field's line
@@ -43,7 +44,7 @@ module _ (starts : List ℕ) (head fields i : ℕ) where
 
 -- ---- line i of a head
 
--- it stands from p to e, and no line after it starts elsewhere than at e + 2
+-- it stands from `at` to `end`; the rests of the three lists from it on
 pub record LineAt (h : List ℕ) (from i : ℕ) : Type 0 where
   pub at : ℕ
   pub end : ℕ
@@ -70,16 +71,11 @@ module _ (h : List ℕ) (from : ℕ) (right : T (paired 0 (drop from h))) (insid
   lines-are : lines-from h from ≡ part h from e ∷ lines-from h (e + 2)
   lines-are = line-here h from e inside right refl
 
-  after : from + length (part h from e) + 2 ≡ e + 2
-  after = omega (arith, length-part h from e (end-order h from e inside refl) (end-inside h from e inside refl), end-order h from e inside refl)
-
   starts-are : line-starts from (lines-from h from) ≡ from ∷ line-starts (e + 2) (lines-from h (e + 2))
-  unfolding line-starts
-  starts-are = ap (line-starts from) lines-are ∙ ap (λ (k : ℕ). from ∷ line-starts k (lines-from h (e + 2))) after
+  starts-are = starts-here h from e inside refl right
 
   colons-are : line-colons from (lines-from h from) ≡ (from + colon-in (part h from e)) ∷ line-colons (e + 2) (lines-from h (e + 2))
-  unfolding line-colons
-  colons-are = ap (line-colons from) lines-are ∙ ap (λ (k : ℕ). (from + colon-in (part h from e)) ∷ line-colons k (lines-from h (e + 2))) after
+  colons-are = colons-here h from e inside refl right
 
   this-line : LineAt h from 0
   this-line = record { at = from; end = e; inside = inside; end-is = refl; on = omega arith; paired-on = right; lines = lines-are; starts = starts-are; colons = colons-are }
@@ -158,7 +154,7 @@ readable-head : (h : List ℕ) (o : Option Request) (m u e n : ℕ) → Readable
 readable-head h none m u e n q = let z : _≡_ {A = ℕ} 0 1 = cc in absurd (omega arith)
 readable-head h (some x) m u e n q = cc
 
-readable-count : (h : List ℕ) (o : Option Request) (m u e n : ℕ) (x : Request) → Readable m u e n ≡ reading h o → o ≡ some x → length (x .fields) ≡ n
+pub readable-count : (h : List ℕ) (o : Option Request) (m u e n : ℕ) (x : Request) → Readable m u e n ≡ reading h o → o ≡ some x → length (x .fields) ≡ n
 readable-count h none m u e n x q r = let z : _≡_ {A = ℕ} 0 1 = cc in absurd (omega arith)
 readable-count h (some y) m u e n x q r = let same : y ≡ x = cc in sym (ap (λ (z : Request). length (z .fields)) same) ∙ cc
 
@@ -224,7 +220,7 @@ module _ (s starts colons : List ℕ) (head fields i : ℕ) (x : Indexed s start
   at-le = end-order h at end (line .inside) (line .end-is)
 
   long-l : length l ≡ end - at
-  long-l = length-part h at end at-le (omega (arith, end-le, long-h))
+  long-l = line-long h at end (line .inside) (line .end-is)
 
   line-is : l ≡ part s at end
   line-is = part-front head at end s end-le
@@ -381,11 +377,8 @@ module _ (s starts colons : List ℕ) (head fields i : ℕ) (x : Indexed s start
 
   pub field-says : (q : Request) → read-request s ≡ some q → FieldSays s q head i (field-parts (head-of s) i)
   field-says q e =
-      let same : a .request ≡ q = the-request (a .request) q (sym (a .read) ∙ e) in
+      let same : a .request ≡ q = some-is (a .request) q (sym (a .read) ∙ e) in
       subst (λ (r : FieldParts). FieldSays s q head i r) (sym parts-so) (subst (λ (y : Request). FieldSays s y head i (parts-of at l)) same says)
-    where
-      the-request : (y z : Request) → some y ≡ some z → y ≡ z
-      the-request y z w = cc
 
 -- what `read` wrote
 pub indexed : (s starts colons starts′ colons′ : List ℕ) (m u head fields i : ℕ) → Read s starts colons starts′ colons′ (Readable m u head fields) → i < fields → Indexed s starts′ colons′ head fields i

@@ -173,9 +173,13 @@ head-free : (h b c : List ℕ) (ls : List (List ℕ)) → judged h (head ls b) �
 head-free h b c [] = refl
 head-free h b c (l ∷ ls) = body-free h b c (start-line l) (continues ls) (all-fields (whole-fields ls))
 
-pub judge-long : (s : List ℕ) → 65535 < length s → Refused ≡ judged (head-of s) (read-request s)
+-- "At most 65,535 bytes."
+pub long-unreadable : (s : List ℕ) → 65535 < length s → read-request s ≡ none
 unfolding read-request
-judge-long s h = rw (lt-leb (length s) 65535 h)
+long-unreadable s h = rw (lt-leb (length s) 65535 h)
+
+pub judge-long : (s : List ℕ) → 65535 < length s → Refused ≡ judged (head-of s) (read-request s)
+judge-long s h = sym (ap (judged (head-of s)) (long-unreadable s h))
 
 module _ (s : List ℕ) (short : length s ≤ 65535) (e : ℕ) (e-is : e ≡ length (head-of s)) where
   abbrev reading : Option Cut → Option Request

@@ -2,13 +2,13 @@
 use mathlib.Core.Bool.{Bool, true, false, not}
 use mathlib.Core.Path.{_≡_, refl, sym, ap, _∙_, subst}
 use mathlib.Core.List.{List, [], _∷_}
-use Prim.Native.Nat.{ℕ, zero, suc, _+_, _-_, _≤_, _<_, zero-le}
-use native.Mathlib.Nat.{zero-add, suc-add, not-suc-le-zero, le-of-suc-le-suc}
+use Prim.Native.Nat.{ℕ, suc, _+_, _-_, _≤_, _<_}
+use native.Mathlib.Nat.{suc-add}
 use native.Mathlib.Omega.{arith}
 use lib.ListN.{length, getD, take, drop}
-use lib.Dec.{T, eqb, leb·suc-suc}
+use lib.Dec.{T, eqb}
 use lib.Seq.{drop-drop}
-use borrow.Author.Tests.{le-leb, lt-leb, ne-eqb, eqb-false}
+use borrow.Author.Tests.{ne-eqb, eqb-false}
 use Rattle.octets.specs.Bytes.{white}
 use Rattle.octets.specs.Lists.{pick, only}
 use Rattle.octets.proofs.Tests.{test-cases}
@@ -19,6 +19,7 @@ use Rattle.request.specs.Searching.{first, line-break}
 use Rattle.request.specs.Steps.{lines-from}
 use Rattle.request.proofs.Head.{Pairs, pairs-end, pairs-byte, pairs-fold, pairs, pairs-paired}
 use Rattle.request.proofs.Search.{first-yes, first-no}
+use Rattle.request.proofs.From as F
 
 abbrev whole : List ℕ → List (List ℕ)
 whole h = whole-fields (head-lines h)
@@ -64,16 +65,15 @@ whole-push b (l ∷ ls) = pick-push b l (whole-fields ls) (continues ls)
 
 pub from-suc : (b : ℕ) (s : List ℕ) (p : ℕ) → lines-from (b ∷ s) (suc p) ≡ lines-from s p
 unfolding lines-from
-from-suc b s p = ap (λ (t : Bool). pick t (whole (drop p s)) []) (leb·suc-suc p (length s))
+from-suc = F.from-suc whole
 
 pub from-start : (s : List ℕ) → lines-from s 0 ≡ whole s
 unfolding lines-from
-from-start s = ap (λ (t : Bool). pick t (whole s) []) (le-leb 0 (length s) zero-le)
+from-start = F.from-start whole
 
 from-drop : (s : List ℕ) (p q : ℕ) → p ≤ length s → lines-from (drop p s) q ≡ lines-from s (p + q)
-from-drop s zero q h = ap (lines-from s) (sym (zero-add q))
-from-drop [] (suc p) q h = absurd (not-suc-le-zero h)
-from-drop (b ∷ s) (suc p) q h = from-drop s p q (le-of-suc-le-suc h) ∙ sym (from-suc b s (p + q)) ∙ ap (lines-from (b ∷ s)) (sym (suc-add p q))
+unfolding lines-from
+from-drop = F.from-drop whole
 
 abbrev brk : List ℕ → ℕ
 brk s = first line-break s
@@ -150,7 +150,7 @@ module _ (h : List ℕ) (p e : ℕ) (inside : p ≤ length h) (right : T (paired
       let k = brk (drop p h) in
       let on : p + (k + 2) ≡ e + 2 = omega arith in
       let long : k ≡ e - p = omega arith in
-      ap (λ (t : Bool). pick t (whole (drop p h)) []) (le-leb p (length h) inside) ∙ here .lines
+      F.from-here whole h p inside ∙ here .lines
       ∙ ap (λ (ls : List (List ℕ)). take k (drop p h) ∷ ls) (from-drop h p (k + 2) inside ∙ ap (lines-from h) on)
       ∙ ap (λ (j : ℕ). take j (drop p h) ∷ lines-from h (e + 2)) long
 
@@ -162,4 +162,4 @@ module _ (h : List ℕ) (p e : ℕ) (inside : p ≤ length h) (right : T (paired
 
 pub line-past : (h : List ℕ) (p : ℕ) → length h < p → lines-from h p ≡ []
 unfolding lines-from
-line-past h p past = ap (λ (t : Bool). pick t (whole (drop p h)) []) (lt-leb p (length h) past)
+line-past = F.from-past whole

@@ -1,5 +1,5 @@
 -- The reduced value byte by byte: one pass instead of spaces, squeezed and trimmed at both ends.
-use mathlib.Core.Bool.{Bool, true, false, _&&_, _||_, or-false, or-assoc}
+use mathlib.Core.Bool.{Bool, true, false, _&&_, _||_, or-false}
 use mathlib.Core.Path.{_≡_, refl, sym, ap, _∙_, subst}
 use mathlib.Core.List.{List, [], _∷_, _++_}
 use Prim.Native.Nat.{ℕ, suc, _+_, _≤_, _<_, zero-le}
@@ -23,8 +23,14 @@ use Rattle.request.proofs.Writing.{Written, written-start, written-put,
 pub space-high : (b : ℕ) → 32 < b → false ≡ space b
 space-high b h = rw (ne-eqb b 32 (λ e. omega (arith, e)), ne-eqb b 9 (λ e. omega (arith, e)), ne-eqb b 10 (λ e. omega (arith, e)), ne-eqb b 13 (λ e. omega (arith, e)))
 
+in-turn : (a b c d : Bool) → (a || b || c || d) ≡ (a || (b || (c || (d || false))))
+in-turn true b c d = refl
+in-turn false true c d = refl
+in-turn false false true d = refl
+in-turn false false false d = sym (or-false d)
+
 pub space-low : (b : ℕ) → (eqb b 32 || eqb b 9 || eqb b 10 || eqb b 13) ≡ space b
-space-low b = rw (or-false, or-assoc, or-assoc)
+space-low b = in-turn (eqb b 32) (eqb b 9) (eqb b 10) (eqb b 13)
 
 -- what `spaces` makes of a byte
 abbrev spaced : ℕ → ℕ

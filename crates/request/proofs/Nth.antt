@@ -20,27 +20,25 @@ use Rattle.request.specs.Values.{trim-right}
 use Rattle.request.proofs.Fields.{field-at, field-named}
 use Rattle.request.proofs.Filling.{colon-inside, name-there}
 use Rattle.request.proofs.Search.{before-length}
+use Rattle.request.proofs.Somes.{some-is}
 
 -- ---- the fields of the lines
 
 -- the first line is a field, and so are the others
-record Cons (l : List ℕ) (ls : List (List ℕ)) (fs : List Field) : Type 0 where
-  one : Field
-  one-is : field l ≡ some one
-  others : List Field
-  others-are : all-fields ls ≡ some others
-  all-are : fs ≡ one ∷ others
+pub record Cons (l : List ℕ) (ls : List (List ℕ)) (fs : List Field) : Type 0 where
+  pub one : Field
+  pub one-is : field l ≡ some one
+  pub others : List Field
+  pub others-are : all-fields ls ≡ some others
+  pub all-are : fs ≡ one ∷ others
 
 cons-by : (l : List ℕ) (ls : List (List ℕ)) (fs : List Field) (o : Option Field) (p : Option (List Field))
     → field l ≡ o → all-fields ls ≡ p → (o >>= λ f. p >>= λ gs. some (f ∷ gs)) ≡ some fs → Cons l ls fs
 cons-by l ls fs none p eo ep e = let z : _≡_ {A = ℕ} 0 1 = cc in absurd (omega arith)
 cons-by l ls fs (some f) none eo ep e = let z : _≡_ {A = ℕ} 0 1 = cc in absurd (omega arith)
-cons-by l ls fs (some f) (some gs) eo ep e = record { one = f; one-is = eo; others = gs; others-are = ep; all-are = the-list fs (f ∷ gs) (sym e) }
-  where
-    the-list : (a b : List Field) → some a ≡ some b → a ≡ b
-    the-list a b q = cc
+cons-by l ls fs (some f) (some gs) eo ep e = record { one = f; one-is = eo; others = gs; others-are = ep; all-are = some-is fs (f ∷ gs) (sym e) }
 
-cons : (l : List ℕ) (ls : List (List ℕ)) (fs : List Field) → all-fields (l ∷ ls) ≡ some fs → Cons l ls fs
+pub cons : (l : List ℕ) (ls : List (List ℕ)) (fs : List Field) → all-fields (l ∷ ls) ≡ some fs → Cons l ls fs
 unfolding all-fields
 cons l ls fs e = cons-by l ls fs (field l) (all-fields ls) refl refl e
 

@@ -3,9 +3,9 @@ use mathlib.Core.Bool.{Bool, true, false, not, _&&_, and-false}
 use mathlib.Core.Path.{_≡_, refl, sym, ap, _∙_}
 use mathlib.Core.List.{List, [], _∷_}
 use Prim.Native.Nat.{ℕ, zero, suc, _-_, _≤_, _<_}
-use native.Mathlib.Nat.{not-suc-le-zero, le-of-suc-le-suc, le-of-eq, le-trans, min-le-right}
+use native.Mathlib.Nat.{not-suc-le-zero, le-of-suc-le-suc}
 use native.Mathlib.Omega.{arith}
-use lib.ListN.{length, getD, take, length-take}
+use lib.ListN.{length, getD, take}
 use lib.Dec.{eqb}
 use lib.Seq.{length-take-le, take-length}
 use borrow.Author.Tests.{not-true, not-false}
@@ -13,6 +13,7 @@ use Rattle.octets.specs.Bytes.{white, class-of}
 use Rattle.octets.specs.Lists.{pick, empty}
 use Rattle.octets.proofs.Classes.{rules}
 use Rattle.request.specs.Values.{trim-right}
+use Rattle.request.proofs.Parts.{front-by, front-le}
 
 pub white-class : (b k : ℕ) → b < 256 → k ≡ class-of b → eqb k 2 ≡ white b
 white-class b k byte ek = ap (λ (x : ℕ). eqb x 2) ek ∙ rules b byte .white-is
@@ -37,17 +38,13 @@ trim-text (b ∷ c ∷ s) (suc n) h w =
     ∙ ap (λ (t : Bool). pick t [] (b ∷ take (suc n) (c ∷ s))) (and-false (white b))
 
 -- what stays is a front of the list
-front-by : (b : ℕ) (s later : List ℕ) (t : Bool) → later ≡ take (length later) s → pick t [] (b ∷ later) ≡ take (length (pick t [] (b ∷ later))) (b ∷ s)
-front-by b s later true h = refl
-front-by b s later false h = ap (λ (l : List ℕ). b ∷ l) h
-
 pub trim-front : (l : List ℕ) → trim-right l ≡ take (length (trim-right l)) l
 unfolding trim-right
 trim-front [] = refl
 trim-front (b ∷ s) = front-by b s (trim-right s) (white b && empty (trim-right s)) (trim-front s)
 
 pub trim-le : (l : List ℕ) → length (trim-right l) ≤ length l
-trim-le l = le-trans (le-of-eq (ap length (trim-front l))) (le-trans (le-of-eq (length-take (length (trim-right l)) l)) (min-le-right (length (trim-right l)) (length l)))
+trim-le l = front-le (trim-right l) l (trim-front l)
 
 -- the walk back has come to e
 pub record Back (t : List ℕ) (e : ℕ) : Type 0 where

@@ -18,10 +18,11 @@ use Rattle.request.specs.Values.{Mode, plain, quoted, escaped, angle, st
 use Rattle.request.specs.declared.Piece.{Piece}
 use Rattle.request.specs.declared.Within.{Within}
 use Rattle.request.specs.declared.Within.the-variants.{Text, Quotes, Escape, Angles}
-use Rattle.request.proofs.Cuts.{pieces-from, span-yes, span-no, span-le, splits, piece-from, from-past, from-start}
+use Rattle.request.proofs.Cuts.{pieces-from, span-yes, span-no, span-le, splits, piece-from}
 use Rattle.request.proofs.Parts.{drop-take, length-part}
 use Rattle.request.proofs.Search.{Came, came-next, came-found, first-le, first-yes, first-no}
 use Rattle.request.proofs.Trims.{trim-front, trim-le}
+use Rattle.request.proofs.From as F
 
 -- ---- names
 
@@ -236,7 +237,7 @@ value-says v p inside =
 
 pub values-past : (v : List ℕ) (p : ℕ) → length v < p → values-from v p ≡ []
 unfolding values-from
-values-past v p past = ap (map trim) (from-past cuts step plain after-cut v p past)
+values-past v p past = ap (map trim) (F.from-past pieces v p past)
 
 -- the values of a field: the whole of a reduced value that is never cut, else its pieces from the start on
 module _ (name v : List ℕ) where
@@ -246,4 +247,4 @@ module _ (name v : List ℕ) where
 
   pub values-cut : never-cut name ≡ false → values-of name v ≡ values-from v 0
   unfolding values-of values-from
-  values-cut e = ap (λ (t : Bool). pick t (v ∷ []) (map trim (pieces v))) e ∙ sym (ap (map trim) (from-start cuts step plain after-cut v))
+  values-cut e = ap (λ (t : Bool). pick t (v ∷ []) (map trim (pieces v))) e ∙ sym (ap (map trim) (F.from-start pieces v))

@@ -14,6 +14,8 @@ ghost use Rattle.request.specs.Searching.{first, span, line-break, text-
 ghost use Rattle.request.specs.Steps.{parts-right, start-places, is-field, lines-from, judged, Fillable, Filled, mode-of, ended-line};
 ghost use Rattle.request.specs.Values.{plain, step, cuts, trim-right, reduced, never-cut};
 
+// ---- the head
+
 // Whether CR LF CR LF stands at i.
 fn empty_line_at(s: &[u8], i: usize) -> bool
     requires { ⌜ i ≤ length (now s) ⌝ }
@@ -94,6 +96,8 @@ fn head_bytes_right(h: &[u8]) -> bool
     before != 13
 }
 
+// ---- the start line
+
 // A byte of a URI, or else of a token.
 fn word_byte_is(uri: bool, b: u8) -> bool
     ensures { λ r. ⌜ r ≡ word-byte uri b ⌝ }
@@ -159,6 +163,8 @@ fn start_line(l: &[u8]) -> StartLine
     }
     StartLine::Bad
 }
+
+// ---- the lines of the fields
 
 // SP or HTAB.
 fn is_white(b: u8) -> bool
@@ -242,6 +248,8 @@ fn are_fields(h: &[u8], from: usize) -> bool
     }
     true
 }
+
+// ---- the request
 
 // A request: where its head, its method and its URI end, and where the line of its first field starts.
 enum Judged {
@@ -350,6 +358,72 @@ pub fn read(s: &[u8], starts: &mut [u16], colons: &mut [u16]) -> Reading
         }
     }
 }
+
+// ---- one field
+
+fn wide(x: u16) -> usize
+    ensures { λ r. ⌜ r ≡ x ⌝ }
+{
+    x as usize
+}
+
+// Where the line of field i ends: two bytes before the next one starts, or with the head.
+fn field_end(starts: &[u16], head: usize, fields: usize, i: usize) -> usize
+    requires { ⌜ (i < fields) × (fields ≤ length (now starts)) × ((i + 1 < fields) → 2 ≤ getD (now starts) (i + 1) 0) ⌝ }
+    ensures { λ r. ⌜ r ≡ pick (ltb (i + 1) fields) (getD (now (starts .entry)) (i + 1) 0 - 2) head ⌝ }
+{
+    if i + 1 < fields {
+        return wide(starts[i + 1]) - 2;
+    }
+    head
+}
+
+// A field: its name as written stands from name to stop, its raw value from value to end.
+pub struct FieldParts {
+    pub name: usize,
+    pub stop: usize,
+    pub value: usize,
+    pub end: usize,
+}
+
+// Field i of a request, from the places that `read` wrote: no line is looked for again.
+pub fn field_at(
+    s: &[u8],
+    starts: &[u16],
+    colons: &[u16],
+    head: usize,
+    fields: usize,
+    i: usize,
+) -> FieldParts
+    requires { ⌜ Indexed (now s) (now starts) (now colons) head fields i ⌝ }
+    ensures { λ r. ⌜ r ≡ field-parts (head-of (now (s .entry))) i ⌝ }
+{
+    let a = wide(starts[i]);
+    let k = wide(colons[i]);
+    let n = trimmed_end(&s[a..k]);
+    let e = field_end(starts, head, fields, i);
+    FieldParts {
+        name: a,
+        stop: a + n,
+        value: k + 1,
+        end: e,
+    }
+}
+
+// Writes a name as it is matched to the front of the lent place. It answers how many bytes it wrote. Whoever matches a name takes it from here.
+pub fn name_into(written: &[u8], dst: &mut [u8]) -> usize
+    requires { ⌜ length (name-as-matched (now written)) ≤ length (now dst) ⌝ }
+    ensures { λ r. ⌜ (r ≡ length (name-as-matched (now (written .entry)))) × (now (dst .exit) ≡ over (name-as-matched (now (written .entry))) (now (dst .entry))) ⌝ }
+{
+    let mut i: usize = 0;
+    while i < written.len() {
+        dst[i] = written[i];
+        i += 1;
+    }
+    i
+}
+
+// ---- values
 
 // SP, HTAB, or the CR or LF of a fold.
 fn is_space(b: u8) -> bool
@@ -501,76 +575,16 @@ pub fn next_value(v: &[u8], from: usize) -> Piece
     ensures { λ r. ⌜ r ≡ piece-at (now (v .entry)) from ⌝ }
 {
     let k = piece_end(v, from);
-    let e = from + trimmed_end(&v[from..k]);
-    let a = blanks(&v[from..e]);
+    let stop = from + trimmed_end(&v[from..k]);
+    let a = blanks(&v[from..stop]);
     Piece {
         start: from + a,
-        end: e,
+        end: stop,
         next: k + 1,
     }
 }
 
-fn wide(x: u16) -> usize
-    ensures { λ r. ⌜ r ≡ x ⌝ }
-{
-    x as usize
-}
-
-// Where the line of field i ends: two bytes before the next one starts, or with the head.
-fn field_end(starts: &[u16], head: usize, fields: usize, i: usize) -> usize
-    requires { ⌜ (i < fields) × (fields ≤ length (now starts)) × ((i + 1 < fields) → 2 ≤ getD (now starts) (i + 1) 0) ⌝ }
-    ensures { λ r. ⌜ r ≡ pick (ltb (i + 1) fields) (getD (now (starts .entry)) (i + 1) 0 - 2) head ⌝ }
-{
-    if i + 1 < fields {
-        return wide(starts[i + 1]) - 2;
-    }
-    head
-}
-
-// A field: its name as written stands from name to stop, its raw value from value to end.
-pub struct FieldParts {
-    pub name: usize,
-    pub stop: usize,
-    pub value: usize,
-    pub end: usize,
-}
-
-// Field i of a request, from the places that `read` wrote: no line is looked for again.
-pub fn field_at(
-    s: &[u8],
-    starts: &[u16],
-    colons: &[u16],
-    head: usize,
-    fields: usize,
-    i: usize,
-) -> FieldParts
-    requires { ⌜ Indexed (now s) (now starts) (now colons) head fields i ⌝ }
-    ensures { λ r. ⌜ r ≡ field-parts (head-of (now (s .entry))) i ⌝ }
-{
-    let a = wide(starts[i]);
-    let k = wide(colons[i]);
-    let n = trimmed_end(&s[a..k]);
-    let e = field_end(starts, head, fields, i);
-    FieldParts {
-        name: a,
-        stop: a + n,
-        value: k + 1,
-        end: e,
-    }
-}
-
-// Writes a name as it is matched to the front of the lent place. It answers how many bytes it wrote. Whoever matches a name takes it from here.
-pub fn name_into(written: &[u8], dst: &mut [u8]) -> usize
-    requires { ⌜ length (name-as-matched (now written)) ≤ length (now dst) ⌝ }
-    ensures { λ r. ⌜ (r ≡ length (name-as-matched (now (written .entry)))) × (now (dst .exit) ≡ over (name-as-matched (now (written .entry))) (now (dst .entry))) ⌝ }
-{
-    let mut i: usize = 0;
-    while i < written.len() {
-        dst[i] = written[i];
-        i += 1;
-    }
-    i
-}
+// ---- lines of a body
 
 // Where the line of a body that stands from a place to k ends: before a CR that an LF follows.
 fn line_stop(b: &[u8], from: usize, k: usize) -> usize

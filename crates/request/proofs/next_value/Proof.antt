@@ -20,8 +20,8 @@ part-trimmed-end-end c = search piece-inside
 trimmed-end-requires : tie.Need-trimmed-end-requires
 trimmed-end-requires c κs = search needs
 
-add-e : tie.Need-add-e
-add-e c = omega (arith, trimmed-le (now (c .before .before .before .before .args .v)) _ (c .before .before .before .before .pre .0) _ (c .before .before .piece-end .ensures) _ (c .trimmed-end .ensures))
+add-stop : tie.Need-add-stop
+add-stop c = omega (arith, trimmed-le (now (c .before .before .before .before .args .v)) _ (c .before .before .before .before .pre .0) _ (c .before .before .piece-end .ensures) _ (c .trimmed-end .ensures))
 
 sub-blanks : tie.Need-sub-blanks
 sub-blanks c = search needs
@@ -53,7 +53,7 @@ next-value-spec =
     part-trimmed-end-start
     part-trimmed-end-end
     trimmed-end-requires
-    add-e
+    add-stop
     sub-blanks
     part-blanks-start
     part-blanks-end
