@@ -91,7 +91,7 @@ pub fn test(
     requires { ⌜ Ready (now p) h (now sets) (now before) ⌝ }
     ensures { λ r. ⌜ r ≡ meets-text fold (now (p .entry)) (now (text .entry)) ⌝ }
 {
-    leftmost(h, sets, before, fold, text) <= text.len()
+    first_match(h, sets, before, p, fold, text) <= text.len()
 }
 
 pub enum Outcome {
