@@ -17,13 +17,13 @@ use Rattle.octets.proofs.Tests.{by-test, left, right}
 use Rattle.pattern.specs.Answers.{meet-as}
 use Rattle.pattern.specs.Machine.{Machine, Live, live-end, live-on, Starts, starts-none, starts-live, Leftmost, first-mask, last-mask, lower-as, upper-as, met, machine-of}
 use Rattle.pattern.specs.Pattern.{Atom, Elem, meets}
-use Rattle.pattern.specs.Prepared.{atom-of, starred, no-marks, marks, sets-of, befores, mark, shape-by}
+use Rattle.pattern.specs.Prepared.{atom-of, no-marks, marks, sets-of, befores, shape-by}
 use Rattle.pattern.specs.Drawn.{drawn}
 use Rattle.pattern.specs.Sets.{in-set}
 use Rattle.pattern.specs.declared.edition1.Marks.{Marks}
 use Rattle.pattern.specs.declared.matcher.Shape.{Shape}
 use Rattle.pattern.proofs.Compiled.{met-at, compiled}
-use Rattle.pattern.proofs.Positions.{free, leads, ends, follows, frees, ends-bit, leads-bit, follows-bit, follows-past, at-bit}
+use Rattle.pattern.proofs.Positions.{free, leads, ends, follows, frees, ends-bit, leads-bit, follows-bit, follows-past, at-bit, befores-length}
 use Rattle.pattern.proofs.Words.{in-words}
 
 -- ---- two machines that agree on bytes take the same parts
@@ -146,14 +146,10 @@ module _ (fold left right : Bool) (es : List Elem) (old-sets : List (List ℕ)) 
   follow-is : (p q : ℕ) → (ltb q (all .at) && bit (getD (befores no-marks es ++ old-before) q 0) p) ≡ follows es p q
   follow-is p q = ap (λ (n : ℕ). ltb q n && bit (getD (befores no-marks es ++ old-before) q 0) p) size-is ∙ go (ltb q (length es)) refl
     where
-      long : (m : Marks) (es : List Elem) → length (befores m es) ≡ length es
-      long m [] = refl
-      long m (e ∷ es) = ap suc (long (mark m (starred e)) es)
-
       go : (t : Bool) → ltb q (length es) ≡ t → (t && bit (getD (befores no-marks es ++ old-before) q 0) p) ≡ follows es p q
       go true t =
           let k : q < length es = ltb-true q (length es) t in
-          ap (λ (n : ℕ). bit n p) (List·getD-append (befores no-marks es) old-before 0 q (subst (λ (n : ℕ). q < n) (sym (long no-marks es)) k)) ∙ follows-bit es p q k
+          ap (λ (n : ℕ). bit n p) (List·getD-append (befores no-marks es) old-before 0 q (subst (λ (n : ℕ). q < n) (sym (befores-length no-marks es)) k)) ∙ follows-bit es p q k
       go false t = sym (follows-past es p q (ltb-false q (length es) t))
 
   met-past : (es : List Elem) (p b : ℕ) → length es ≤ p → met-at (meet-as fold) es p b ≡ false

@@ -24,7 +24,7 @@ use Rattle.pattern.specs.declared.edition1.Marks.{Marks}
 use Rattle.pattern.specs.declared.reader.Piece.{Piece}
 use Rattle.pattern.specs.declared.matcher.Shape.{Shape}
 use Rattle.pattern.proofs.Elements.{with-elem, Step, body-end, body-last, body-lost, body-more, start-of, finished, read-is, start-le, behind-le, count-empty}
-use Rattle.pattern.proofs.Positions.{at-bit}
+use Rattle.pattern.proofs.Positions.{at-bit, befores-length}
 
 -- ---- what was read
 
@@ -108,10 +108,6 @@ lengths : (es : List Elem) → length (sets-of es) ≡ length es
 lengths [] = refl
 lengths (e ∷ es) = ap suc (lengths es)
 
-lengths-before : (m : Marks) (es : List Elem) → length (befores m es) ≡ length es
-lengths-before m [] = refl
-lengths-before m (e ∷ es) = ap suc (lengths-before (mark m (starred e)) es)
-
 laid : {A : Type 0} (l old : List A) (n : ℕ) → length l ≡ n → n ≤ length old → sets old 0 l ≡ l ++ drop n old
 laid l old n e h =
     let q : length l ≤ length old = omega arith in
@@ -137,7 +133,7 @@ module _ (s : List ℕ) (w : Whole s) (old-sets : List (List ℕ)) (old-before :
             ∙ laid (sets-of (w .body .parts)) old-sets (length (w .body .parts)) (lengths (w .body .parts)) (omega arith);
         lent-before =
             ap (λ (l : List Elem). sets bs (m .at) (befores m l)) (sym p) ∙ f .masked
-            ∙ laid (befores no-marks (w .body .parts)) old-before (length (w .body .parts)) (lengths-before no-marks (w .body .parts)) (omega arith);
+            ∙ laid (befores no-marks (w .body .parts)) old-before (length (w .body .parts)) (befores-length no-marks (w .body .parts)) (omega arith);
       })
 
   pub fill-end : length s ≤ i → FilledFor (read-pattern s) (record { marks = m; right = false }) old-sets ss old-before bs

@@ -25,11 +25,11 @@ use Rattle.pattern.proofs.Compiled.{compiled, starts-front, front-start
 -- ---- the smallest
 
 -- r is the first from `from` on, of n, that passes
-record First (f : ℕ → Bool) (n from r : ℕ) : Type 0 where
-  above : from ≤ r
-  within : r ≤ from + n
-  before : (j : ℕ) → from ≤ j → j < r → f j ≡ false
-  found : r < from + n → f r ≡ true
+pub record First (f : ℕ → Bool) (n from r : ℕ) : Type 0 where
+  pub above : from ≤ r
+  pub within : r ≤ from + n
+  pub before : (j : ℕ) → from ≤ j → j < r → f j ≡ false
+  pub found : r < from + n → f r ≡ true
 
 first-is : (f : ℕ → Bool) (n from r : ℕ) → First f n from r → r ≡ smallest f n from
 first-is f zero from r s = let a : from ≤ r = s .above in let b : r ≤ from + 0 = s .within in omega arith
@@ -53,7 +53,7 @@ first-is f (suc n) from r s = go (f from) refl (λ t. first-is f n (from + 1) r 
             let z : from ≡ r = omega arith in
             absurd (true≢false (sym (s .found (omega arith)) ∙ ap f (sym z) ∙ e))
 
-first-of-smallest : (f : ℕ → Bool) (n from : ℕ) → First f n from (smallest f n from)
+pub first-of-smallest : (f : ℕ → Bool) (n from : ℕ) → First f n from (smallest f n from)
 first-of-smallest f zero from = record { above = omega arith; within = omega arith; before = λ j k l. absurd (omega arith); found = λ l. absurd (omega arith) }
 first-of-smallest f (suc n) from = go (f from) refl (first-of-smallest f n (from + 1))
   where

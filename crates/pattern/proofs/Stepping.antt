@@ -142,11 +142,5 @@ module _ (sets : List (List ℕ)) (size x y p : ℕ) where
   unfolding met
   met-is h r t e q = ap (λ (a : Bool). a && (in-set (getD sets p []) x || in-set (getD sets p []) y)) (lt-ltb p size h) ∙ sym e ∙ q
 
-pub either-yes : (set : List ℕ) (x y : ℕ) (r : Bool) → r ≡ in-set set x → r ≡ true → true ≡ (in-set set x || in-set set y)
-either-yes set x y r e q = ap (λ (a : Bool). a || in-set set y) (sym q ∙ e)
-
 pub either-same : (set : List ℕ) (x y : ℕ) (r : Bool) → r ≡ in-set set x → r ≡ false → x ≡ y → false ≡ (in-set set x || in-set set y)
 either-same set x y r e q z = ap₂ (λ (a d : Bool). a || d) (sym q ∙ e) (sym q ∙ e ∙ ap (in-set set) z)
-
-pub either-second : (set : List ℕ) (x y : ℕ) (r t : Bool) → r ≡ in-set set x → r ≡ false → t ≡ in-set set y → t ≡ (in-set set x || in-set set y)
-either-second set x y r t e q z = ap₂ (λ (a d : Bool). a || d) (sym q ∙ e) z
