@@ -134,6 +134,8 @@ module _ (s : List ℕ) (w : Whole s) (old-sets : List (List ℕ)) (old-before :
         lent-before =
             ap (λ (l : List Elem). sets bs (m .at) (befores m l)) (sym p) ∙ f .masked
             ∙ laid (befores no-marks (w .body .parts)) old-before (length (w .body .parts)) (befores-length no-marks (w .body .parts)) (omega arith);
+        room-sets = f .room-sets;
+        room-before = f .room-before;
       })
 
   pub fill-end : length s ≤ i → FilledFor (read-pattern s) (record { marks = m; right = false }) old-sets ss old-before bs
@@ -253,18 +255,21 @@ pub accepted : (s : List ℕ) (t : Bool) → t ≡ is-pattern s → not t ≡ fa
 accepted s t e n = sym e ∙ not-false t n
 
 module _ (p : List ℕ) (r : Shape) (old-sets : List (List ℕ)) (old-before : List ℕ) (t : Bool) (e : t ≡ is-pattern p) where
-  refused : (o : Option Pattern) → read-pattern p ≡ o → was-read o ≡ false → r ≡ no-shape → Prepared p r old-sets old-sets old-before old-before
-  refused none q u z =
+  refused : (o : Option Pattern) → read-pattern p ≡ o → was-read o ≡ false → r ≡ no-shape → length old-sets ≡ 60 → length old-before ≡ 60
+      → Prepared p r old-sets old-sets old-before old-before
+  refused none q u z ls lb =
       record {
         shape = z ∙ ap shape-of (sym q);
         lent-sets = ap (λ (o : Option Pattern). sets-after o old-sets) (sym q);
         lent-before = ap (λ (o : Option Pattern). befores-after o old-before) (sym q);
+        room-sets = ls;
+        room-before = lb;
       }
-  refused (some x) q u z = absurd (true≢false u)
+  refused (some x) q u z ls lb = absurd (true≢false u)
 
-  pub prepare-refused : not t ≡ true → r ≡ no-shape → Prepared p r old-sets old-sets old-before old-before
+  pub prepare-refused : not t ≡ true → r ≡ no-shape → length old-sets ≡ 60 → length old-before ≡ 60 → Prepared p r old-sets old-sets old-before old-before
   unfolding is-pattern
-  prepare-refused n z = refused (read-pattern p) refl (sym e ∙ not-true t n) z
+  prepare-refused n z ls lb = refused (read-pattern p) refl (sym e ∙ not-true t n) z ls lb
 
   pub prepare-on : (sets : List (List ℕ)) (before : List ℕ) (next : ℕ) (f : Filled) → not t ≡ false → next ≡ peek p
       → FilledFor (read-pattern p) f old-sets sets old-before before → r ≡ shape-by (f .marks) (eqb next 94) (f .right)
@@ -279,6 +284,8 @@ module _ (p : List ℕ) (r : Shape) (old-sets : List (List ℕ)) (old-before : L
             ∙ ap (λ (o : Option Pattern). shape-by (marks-of o) (eqb (peek p) 94) (ends-anchored o)) (w .is) ∙ ap shape-of (sym (w .is));
         lent-sets = g .lent-sets;
         lent-before = g .lent-before;
+        room-sets = g .room-sets;
+        room-before = g .room-before;
       }
 
 pub prepared-ready : (p : List ℕ) (h : Shape) (old-sets sets : List (List ℕ)) (old-before before : List ℕ) → Prepared p h old-sets sets old-before before

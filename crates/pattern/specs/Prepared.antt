@@ -103,12 +103,16 @@ pub record FilledFor (o : Option Pattern) (r : Filled) (old-sets sets : List (Li
   pub anchored : r .right ≡ ends-anchored o
   pub lent-sets : sets ≡ sets-after o old-sets
   pub lent-before : before ≡ befores-after o old-before
+  pub room-sets : length sets ≡ 60
+  pub room-before : length before ≡ 60
 
 -- what `prepare` leaves, and what `test` needs
 pub record Prepared (p : List ℕ) (h : Shape) (old-sets sets : List (List ℕ)) (old-before before : List ℕ) : Type 0 where
   pub shape : h ≡ shape-of (read-pattern p)
   pub lent-sets : sets ≡ sets-after (read-pattern p) old-sets
   pub lent-before : before ≡ befores-after (read-pattern p) old-before
+  pub room-sets : length sets ≡ 60
+  pub room-before : length before ≡ 60
 
 pub record Ready (p : List ℕ) (h : Shape) (sets : List (List ℕ)) (before : List ℕ) : Type 0 where
   pub old-sets : List (List ℕ)

@@ -12,7 +12,8 @@ no-shape-requires c κs = search needs
 
 returns : tie.Need-returns
 returns c =
-    let q = prepare-refused _ _ _ _ _ (c .before .before .is-pattern .ensures) (c .before .if1 .taken) (c .no-shape .ensures) in
+    let pre = c .before .before .before .before .pre in
+    let q = prepare-refused _ _ _ _ _ (c .before .before .is-pattern .ensures) (c .before .if1 .taken) (c .no-shape .ensures) (pre .0) (pre .1) in
     (prepared-ready _ _ _ _ _ _ q, q)
 
 peek-at-requires : tie.Need-peek-at-requires
