@@ -1,13 +1,14 @@
 // The matcher: a machine of at most 60 positions, a bit for each. It knows no edition of patterns.
 ghost use mathlib.Core.Path.{_≡_};
 ghost use mathlib.Core.Bool.{true, not, _||_};
+ghost use mathlib.Core.List.{[]};
 ghost use Prim.Native.Nat.{_+_, _≤_, _<_};
 ghost use lib.Bits.{bitAnd};
 ghost use lib.Dec.{eqb};
+ghost use lib.ListN.{getD};
 ghost use Rattle.octets.specs.Lists.{pick};
 ghost use Rattle.pattern.specs.Machine.{Stepped, Leftmost, first-mask, last-mask, null-at, lower-as, upper-as, machine-of};
 ghost use Rattle.pattern.specs.Sets.{in-set};
-use crate::sets::has;
 
 // Which positions may begin a part, at the text's start or elsewhere; which may end one, at the text's end or elsewhere; and
 // whether the empty part fits: as the whole text, at its start, at its end, or between.
@@ -29,16 +30,27 @@ pub struct Front {
     pub next: u64,
 }
 
-fn has_either(set: [u64; 4], x: u8, y: u8) -> bool
-    ensures { λ r. ⌜ r ≡ (in-set set x || in-set set y) ⌝ }
+// Whether the set of position p has the byte b.
+fn has(sets: &[[u64; 4]; 60], p: usize, b: u8) -> bool
+    requires { ⌜ p < 60 ⌝ }
+    ensures { λ r. ⌜ r ≡ in-set (getD (now (sets .entry)) p []) b ⌝ }
 {
-    if has(set, x) {
+    let w = (b / 64) as usize;
+    let k = b % 64;
+    (sets[p][w] >> k) & 1 == 1
+}
+
+fn has_either(sets: &[[u64; 4]; 60], p: usize, x: u8, y: u8) -> bool
+    requires { ⌜ p < 60 ⌝ }
+    ensures { λ r. ⌜ r ≡ (in-set (getD (now (sets .entry)) p []) x || in-set (getD (now (sets .entry)) p []) y) ⌝ }
+{
+    if has(sets, p, x) {
         return true;
     }
     if x == y {
         return false;
     }
-    has(set, y)
+    has(sets, p, y)
 }
 
 // Of the candidates, the positions that meet a byte whose two forms are x and y. Only the candidates are looked at.
@@ -60,7 +72,7 @@ fn step(
         let p = u64::trailing_zeros(left) as usize;
         left = left ^ 1 << p;
         if p < size {
-            if has_either(sets[p], x, y) {
+            if has_either(sets, p, x, y) {
                 live = live | 1 << p;
                 next = next | before[p];
             }

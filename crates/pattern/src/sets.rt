@@ -4,19 +4,10 @@ ghost use mathlib.Core.Bool.{Bool, not, _&&_, _||_};
 ghost use Prim.Native.Nat.{ℕ, _≤_};
 ghost use lib.Dec.{eqb};
 ghost use Rattle.octets.specs.Bytes.{within};
-ghost use Rattle.pattern.specs.Sets.{in-set, words};
+ghost use Rattle.pattern.specs.Sets.{words};
 
 // All bits of a word.
 const ALL: u64 = 18446744073709551615;
-
-// Whether the byte b is in the set.
-pub(crate) fn has(set: [u64; 4], b: u8) -> bool
-    ensures { λ r. ⌜ r ≡ in-set set b ⌝ }
-{
-    let w = (b / 64) as usize;
-    let k = b % 64;
-    (set[w] >> k) & 1 == 1
-}
 
 // The set with one byte more.
 pub(crate) fn add_byte(set: [u64; 4], c: u8) -> [u64; 4]
