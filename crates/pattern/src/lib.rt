@@ -6,14 +6,14 @@ ghost use Rattle.pattern.specs.Prepared.{Prepared, Ready};
 
 mod draw;
 mod edition1;
-pub mod matcher;
+mod matcher;
 mod reader;
 mod sets;
 
 use crate::edition1::fill;
 use crate::edition1::no_shape;
 use crate::edition1::shape_by;
-use crate::matcher::Shape;
+pub use crate::matcher::Shape;
 use crate::matcher::leftmost;
 use crate::reader::atom_at;
 use crate::reader::behind;
