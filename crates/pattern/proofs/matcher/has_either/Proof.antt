@@ -5,23 +5,18 @@ use mathlib.Core.Path.{_∙_}
 use Rattle.pattern.proofs.matcher.has_either.Statement.{statement}
 use Rattle.pattern.proofs.matcher.has_either.Tie as tie
 
--- src/matcher.rt:47:8
 has-requires : tie.Need-has-requires
 has-requires c κs = search needs
 
--- src/matcher.rt:48:9
 returns : tie.Need-returns
 returns c = or-first _ _ _ (c .before .has .ensures) (c .if1 .taken)
 
--- src/matcher.rt:51:9
 returns-2 : tie.Need-returns-2
 returns-2 c = search either-same
 
--- src/matcher.rt:53:5
 has-requires-2 : tie.Need-has-requires-2
 has-requires-2 c κs = search needs
 
--- src/matcher.rt:43:1
 returns-3 : tie.Need-returns-3
 returns-3 c = c .has2 .ensures ∙ or-second _ _ _ (c .before .before .before .has .ensures) (c .before .before .if1 .left)
 

@@ -12,63 +12,49 @@ Inv-loop sets before size candidates x y left₀ live₀ next₀ left live next 
 abbrev μ-loop : tie.MeasureT-loop
 μ-loop sets before size candidates x y left₀ live₀ next₀ left live next = left
 
--- src/matcher.rt:71:5
 loop-holds : tie.Need-loop-holds Inv-loop μ-loop
 loop-holds c = search step-none
 
--- src/matcher.rt:72:17
 cast-p : tie.Need-cast-p Inv-loop μ-loop
 cast-p c = omega (arith, trailing-le 64 (c .before .loop .left))
 
--- src/matcher.rt:73:23
 shl-left : tie.Need-shl-left Inv-loop μ-loop
 shl-left c = lowest-lt _ _ _ _ _ _ _ _ _ (c .before .loop .inv) (c .loop-test .taken) _ refl
 
--- src/matcher.rt:75:16
 has-either-requires : tie.Need-has-either-requires Inv-loop μ-loop
 has-either-requires c κs = search needs
 
--- src/matcher.rt:76:31
 shl-live : tie.Need-shl-live Inv-loop μ-loop
 shl-live c = lowest-lt _ _ _ _ _ _ _ _ _ (c .before .before .before .before .loop .inv) (c .before .before .before .loop-test .taken) _ refl
 
--- src/matcher.rt:77:31
 mul-next : tie.Need-mul-next Inv-loop μ-loop
 mul-next c = search needs
 
--- src/matcher.rt:77:31
 element-copy-out-next : tie.Need-element-copy-out-next Inv-loop μ-loop
 element-copy-out-next c = search needs
 
--- src/matcher.rt:71:5
 loop-less : tie.Need-loop-less Inv-loop μ-loop
 loop-less c = step-less _ _ _ _ _ _ _ _ _ (c .before .before .before .before .before .loop .inv) (c .before .before .before .before .loop-test .taken) _ refl
 
--- src/matcher.rt:71:5
 loop-again : tie.Need-loop-again Inv-loop μ-loop
 loop-again c =
     step-keep _ _ _ _ _ _ _ _ _ (c .before .before .before .before .before .loop .inv) (c .before .before .before .before .loop-test .taken) _ refl
     (met-is _ _ _ _ _ (c .before .before .before .if1 .taken) _ _ (c .before .before .has-either .ensures) (c .before .if2 .taken))
 
--- src/matcher.rt:71:5
 loop-less-2 : tie.Need-loop-less-2 Inv-loop μ-loop
 loop-less-2 c = step-less _ _ _ _ _ _ _ _ _ (c .before .before .before .before .loop .inv) (c .before .before .before .loop-test .taken) _ refl
 
--- src/matcher.rt:71:5
 loop-again-2 : tie.Need-loop-again-2 Inv-loop μ-loop
 loop-again-2 c =
     step-skip _ _ _ _ _ _ _ _ _ (c .before .before .before .before .loop .inv) (c .before .before .before .loop-test .taken) _ refl
     (met-is _ _ _ _ _ (c .before .before .if1 .taken) _ _ (c .before .has-either .ensures) (c .if2 .left))
 
--- src/matcher.rt:71:5
 loop-less-3 : tie.Need-loop-less-3 Inv-loop μ-loop
 loop-less-3 c = step-less _ _ _ _ _ _ _ _ _ (c .before .before .loop .inv) (c .before .loop-test .taken) _ refl
 
--- src/matcher.rt:71:5
 loop-again-3 : tie.Need-loop-again-3 Inv-loop μ-loop
 loop-again-3 c = step-skip _ _ _ _ _ _ _ _ _ (c .before .before .loop .inv) (c .before .loop-test .taken) _ refl (met-past _ _ _ _ _ (c .if1 .left))
 
--- src/matcher.rt:57:1
 returns : tie.Need-returns Inv-loop μ-loop
 returns c = search step-all
 
