@@ -152,7 +152,7 @@ module _ (fold start end : Bool) (es : List Elem) (s : List ℕ) where
 
 module _ (fold : Bool) (t : List ℕ) (r : ℕ) (bytes : Bytes t) where
   -- the machine with no position takes no part
-  nothing : (sets : List (List ℕ)) (before : List ℕ) (a : Bool) (l : List ℕ) → Starts (machine-of no-shape sets before fold) a l → ⊥
+  nothing : (sets : List (List ℕ)) (before : List ℕ) (a : Bool) (l : List ℕ) → Starts (machine-of no-shape sets before) a l → ⊥
   nothing sets before true [] (starts-none z) = z
   nothing sets before true (b ∷ l) (starts-none z) = z
   nothing sets before false [] (starts-none z) = z
@@ -161,7 +161,7 @@ module _ (fold : Bool) (t : List ℕ) (r : ℕ) (bytes : Bytes t) where
   nothing sets before false l (starts-live {p = p} f v) = not-T-of (bit-zero p) f
 
   found-as : (o : Option Pattern) (old-sets : List (List ℕ)) (old-before : List ℕ)
-      → Leftmost (machine-of (shape-of o) (sets-after o old-sets) (befores-after o old-before) fold) t r → r ≡ first-of fold o t
+      → Leftmost (machine-of (shape-of o) (sets-after fold o old-sets) (befores-after o old-before)) t r → r ≡ first-of fold o t
   found-as none old-sets old-before l =
       let w : r ≤ length t + 1 = l .within in
       let past : length t < r = high (leb r (length t)) refl in
@@ -175,15 +175,15 @@ module _ (fold : Bool) (t : List ℕ) (r : ℕ) (bytes : Bytes t) where
       (leftmost-fits fold (p .at-start) (p .at-end) (p .elems) t r
       (leftmost-agree t r (pattern-agrees fold (p .at-start) (p .at-end) (p .elems) (drop (length (p .elems)) old-sets) (drop (length (p .elems)) old-before)) bytes l))
 
-  pub found-first : (p : List ℕ) (h : Shape) (sets : List (List ℕ)) (before : List ℕ) → Ready p h sets before → Leftmost (machine-of h sets before fold) t r
+  pub found-first : (p : List ℕ) (h : Shape) (sets : List (List ℕ)) (before : List ℕ) → Ready fold p h sets before → Leftmost (machine-of h sets before) t r
       → r ≡ first-fit fold p t
   unfolding first-fit
   found-first p h sets before ready l =
       let q = ready .prepared in
       found-as (read-pattern p) (ready .old-sets) (ready .old-before)
-      (subst (λ (x : List ℕ). Leftmost (machine-of (shape-of (read-pattern p)) (sets-after (read-pattern p) (ready .old-sets)) x fold) t r) (q .lent-before)
-      (subst (λ (x : List (List ℕ)). Leftmost (machine-of (shape-of (read-pattern p)) x before fold) t r) (q .lent-sets)
-      (subst (λ (x : Shape). Leftmost (machine-of x sets before fold) t r) (q .shape) l)))
+      (subst (λ (x : List ℕ). Leftmost (machine-of (shape-of (read-pattern p)) (sets-after fold (read-pattern p) (ready .old-sets)) x) t r) (q .lent-before)
+      (subst (λ (x : List (List ℕ)). Leftmost (machine-of (shape-of (read-pattern p)) x before) t r) (q .lent-sets)
+      (subst (λ (x : Shape). Leftmost (machine-of x sets before) t r) (q .shape) l)))
 
 -- a pattern matches exactly if the smallest place lies within the text
 pub first-meets : (fold : Bool) (p t : List ℕ) → leb (first-fit fold p t) (length t) ≡ meets-text fold p t
