@@ -3,7 +3,7 @@ use mathlib.Core.Path.{_≡_, refl, sym, ap, _∙_, subst⁻¹}
 use mathlib.Core.Bool.{Bool, true, false, not, _&&_, _||_, true≢false, or-true, or-false, and-true, and-false}
 use Prim.Native.Nat.{ℕ, zero, suc, _+_, _*_, _-_, _/_, _%_, _^_, _<_, _≤_, min, max}
 use native.Mathlib.Omega.{arith}
-use native.Mathlib.Nat.{mod-lt, mul-add-mod-self-right, mul-mod-left, mod-eq-of-lt, min-le-left, lt-of-le-of-lt, div-eq-of-lt, zero-div, pow-suc, div-self, div-one, add-comm, div-lt-iff-lt-mul, div-add-mod', le-refl, one-mul, lt-of-lt-of-le, zero-add}
+use native.Mathlib.Nat.{mod-lt, mul-add-mod-self-right, mul-mod-left, mod-eq-of-lt, min-le-left, lt-of-le-of-lt, div-eq-of-lt, zero-div, pow-suc, div-self, div-one, add-comm, div-lt-iff-lt-mul, div-add-mod', le-refl, one-mul, mul-assoc, lt-of-lt-of-le, zero-add}
 use native.Mathlib.Numerals.{add-one}
 use lib.Bits.{bitAnd, bitOr, bitXor, differ, and-step, or-step, xor-step, and-shr, or-shr, xor-shr, and-mask, and-le-r, xor-add-and, or-shifted-r}
 use lib.Count.{trailingZeros, under}
@@ -127,6 +127,28 @@ bit-pow p k = go (ltb k p) refl (ltb p k) refl
 -- one bit more
 pub bit-add : (n p k : ℕ) → bit (bitOr n (2 ^ p)) k ≡ (bit n k || eqb k p)
 bit-add n p k = bit-or n (2 ^ p) k ∙ ap (λ (x : Bool). bit n k || x) (bit-pow p k)
+
+-- ---- shifts
+
+pub bit-shr : (n s k : ℕ) → bit (n / 2 ^ s) k ≡ bit n (s + k)
+unfolding bit
+bit-shr n s k = ap (λ (x : ℕ). eqb (x % 2) 1) (shr-shr n s k)
+
+pub bit-shl : (n s k : ℕ) → bit (n * 2 ^ s) (s + k) ≡ bit n k
+unfolding bit
+bit-shl n s k = ap (λ (x : ℕ). eqb (x % 2) 1) (sym (shr-shr (n * 2 ^ s) s k) ∙ ap (λ (x : ℕ). x / 2 ^ k) (shl-shr n s))
+
+pub bit-shl-low : (n s k : ℕ) → k < s → bit (n * 2 ^ s) k ≡ false
+unfolding bit
+bit-shl-low n s k h =
+    let e : s ≡ suc (s - suc k) + k = omega arith in
+    ap (λ (x : ℕ). eqb (n * 2 ^ x / 2 ^ k % 2) 1) e
+    ∙ ap (λ (x : ℕ). eqb (n * x / 2 ^ k % 2) 1) (pow-add 2 (suc (s - suc k)) k)
+    ∙ ap (λ (x : ℕ). eqb (x / 2 ^ k % 2) 1) (sym (mul-assoc n (2 ^ suc (s - suc k)) (2 ^ k)))
+    ∙ ap (λ (x : ℕ). eqb (x % 2) 1) (shl-shr (n * 2 ^ suc (s - suc k)) k)
+    ∙ ap (λ (x : ℕ). eqb (n * x % 2) 1) (pow-suc 2 (s - suc k))
+    ∙ ap (λ (x : ℕ). eqb (x % 2) 1) (sym (mul-assoc n (2 ^ (s - suc k)) 2))
+    ∙ ap (λ (x : ℕ). eqb x 1) (mul-mod-left (n * 2 ^ (s - suc k)) 2)
 
 -- ---- a number is its bits
 

@@ -1,29 +1,28 @@
 -- The machine that the code holds agrees with the pattern's, on bytes.
-use mathlib.Core.Path.{_≡_, refl, sym, ap, ap₂, _∙_, subst}
+use mathlib.Core.Path.{_≡_, refl, sym, ap, _∙_, subst}
 use mathlib.Core.Bool.{Bool, true, false, not, _&&_, _||_, and-true, and-false}
 use mathlib.Core.List.{List, [], _∷_, _++_}
 use Prim.Native.Nat.{ℕ, zero, suc, _+_, _-_, _<_, _≤_}
 use native.Mathlib.Nat.{zero-add}
 use native.Mathlib.Omega.{arith}
-use lib.Dec.{T, leb, ltb}
+use lib.Dec.{T, ltb}
 use lib.ListN.{length, getD, drop, List·getD-append}
 use lib.Seq.{getD-drop}
-use borrow.Author.Tests.{ltb-true, ltb-false, leb-true}
+use borrow.Author.Tests.{ltb-true, ltb-false}
 use Rattle.octets.specs.Bits.{bit}
-use Rattle.octets.specs.Bytes.{lower, upper, within}
+use Rattle.octets.specs.Bytes.{within}
 use Rattle.octets.specs.Lists.{pick}
 use Rattle.octets.proofs.Bits.{bit-zero}
-use Rattle.octets.proofs.Tests.{by-test, left, right}
+use Rattle.octets.proofs.Tests.{left, right}
 use Rattle.pattern.specs.Answers.{meet-as}
-use Rattle.pattern.specs.Machine.{Machine, Live, live-end, live-on, Starts, starts-none, starts-live, Leftmost, first-mask, last-mask, lower-as, upper-as, met, machine-of}
+use Rattle.pattern.specs.Machine.{Machine, Live, live-end, live-on, Starts, starts-none, starts-live, Leftmost, first-mask, last-mask, met, machine-of}
 use Rattle.pattern.specs.Pattern.{Atom, Elem, meets}
-use Rattle.pattern.specs.Prepared.{atom-of, starred, no-marks, marks, sets-of, befores, mark, shape-by}
-use Rattle.pattern.specs.Drawn.{drawn}
+use Rattle.pattern.specs.Prepared.{atom-of, no-marks, marks, set-as, sets-of, befores, shape-by}
 use Rattle.pattern.specs.Sets.{in-set}
 use Rattle.pattern.specs.declared.edition1.Marks.{Marks}
 use Rattle.pattern.specs.declared.matcher.Shape.{Shape}
 use Rattle.pattern.proofs.Compiled.{met-at, compiled}
-use Rattle.pattern.proofs.Positions.{free, leads, ends, follows, frees, ends-bit, leads-bit, follows-bit, follows-past, at-bit}
+use Rattle.pattern.proofs.Positions.{free, leads, ends, follows, frees, ends-bit, leads-bit, follows-bit, follows-past, at-bit, befores-length}
 use Rattle.pattern.proofs.Words.{in-words}
 
 -- ---- two machines that agree on bytes take the same parts
@@ -69,30 +68,9 @@ leftmost-agree s r g h l = record {
 
 -- ---- a set on a byte
 
-in-drawn : (a : Atom) (b : ℕ) → b < 256 → in-set (drawn true a) b ≡ meets a b
-unfolding drawn
-in-drawn a b h = in-words (λ x. meets a x) b h
-
-lower-lt : (b : ℕ) → b < 256 → lower b < 256
-lower-lt b h =
-    by-test (λ (n : ℕ). n < 256) (within 65 90 b) (b + 32) b
-    (λ e. let l : b ≤ 90 = leb-true b 90 (sym (right-is (leb 65 b) e)) in omega arith) (λ e. h)
-  where
-    right-is : (x : Bool) {y : Bool} → (x && y) ≡ true → true ≡ y
-    right-is true e = sym e
-    right-is false e = absurd (subst T (sym e) tt)
-
-upper-lt : (b : ℕ) → b < 256 → upper b < 256
-upper-lt b h = by-test (λ (n : ℕ). n < 256) (within 97 122 b) (b - 32) b (λ e. omega arith) (λ e. h)
-
-or-same : (x : Bool) → (x || x) ≡ x
-or-same true = refl
-or-same false = refl
-
--- its two forms
-forms : (fold : Bool) (a : Atom) (b : ℕ) → b < 256 → (in-set (drawn true a) (lower-as fold b) || in-set (drawn true a) (upper-as fold b)) ≡ meet-as fold a b
-forms true a b h = ap₂ (λ (x y : Bool). x || y) (in-drawn a (lower b) (lower-lt b h)) (in-drawn a (upper b) (upper-lt b h))
-forms false a b h = or-same (in-set (drawn true a) b) ∙ in-drawn a b h
+in-as : (fold : Bool) (a : Atom) (b : ℕ) → b < 256 → in-set (set-as fold a) b ≡ meet-as fold a b
+unfolding set-as
+in-as fold a b h = in-words (meet-as fold a) b h
 
 -- ---- a pattern's machine
 
@@ -146,14 +124,10 @@ module _ (fold left right : Bool) (es : List Elem) (old-sets : List (List ℕ)) 
   follow-is : (p q : ℕ) → (ltb q (all .at) && bit (getD (befores no-marks es ++ old-before) q 0) p) ≡ follows es p q
   follow-is p q = ap (λ (n : ℕ). ltb q n && bit (getD (befores no-marks es ++ old-before) q 0) p) size-is ∙ go (ltb q (length es)) refl
     where
-      long : (m : Marks) (es : List Elem) → length (befores m es) ≡ length es
-      long m [] = refl
-      long m (e ∷ es) = ap suc (long (mark m (starred e)) es)
-
       go : (t : Bool) → ltb q (length es) ≡ t → (t && bit (getD (befores no-marks es ++ old-before) q 0) p) ≡ follows es p q
       go true t =
           let k : q < length es = ltb-true q (length es) t in
-          ap (λ (n : ℕ). bit n p) (List·getD-append (befores no-marks es) old-before 0 q (subst (λ (n : ℕ). q < n) (sym (long no-marks es)) k)) ∙ follows-bit es p q k
+          ap (λ (n : ℕ). bit n p) (List·getD-append (befores no-marks es) old-before 0 q (subst (λ (n : ℕ). q < n) (sym (befores-length no-marks es)) k)) ∙ follows-bit es p q k
       go false t = sym (follows-past es p q (ltb-false q (length es) t))
 
   met-past : (es : List Elem) (p b : ℕ) → length es ≤ p → met-at (meet-as fold) es p b ≡ false
@@ -162,24 +136,24 @@ module _ (fold left right : Bool) (es : List Elem) (old-sets : List (List ℕ)) 
   met-past (e ∷ es) (suc p) b k = met-past es p b (omega arith)
 
   met-here : (es : List Elem) (p b : ℕ) → p < length es → b < 256
-      → (in-set (getD (sets-of es ++ old-sets) p []) (lower-as fold b) || in-set (getD (sets-of es ++ old-sets) p []) (upper-as fold b)) ≡ met-at (meet-as fold) es p b
+      → in-set (getD (sets-of fold es ++ old-sets) p []) b ≡ met-at (meet-as fold) es p b
   met-here [] p b k l = absurd (omega arith)
-  met-here (e ∷ es) zero b k l = forms fold (atom-of e) b l
+  met-here (e ∷ es) zero b k l = in-as fold (atom-of e) b l
   met-here (e ∷ es) (suc p) b k l = met-here es p b (omega arith) l
 
-  meets-is : (p b : ℕ) → b < 256 → met (all .at) (sets-of es ++ old-sets) (lower-as fold b) (upper-as fold b) p ≡ met-at (meet-as fold) es p b
+  meets-is : (p b : ℕ) → b < 256 → met (all .at) (sets-of fold es ++ old-sets) b p ≡ met-at (meet-as fold) es p b
   unfolding met
   meets-is p b l =
-      ap (λ (n : ℕ). ltb p n && (in-set (getD (sets-of es ++ old-sets) p []) (lower-as fold b) || in-set (getD (sets-of es ++ old-sets) p []) (upper-as fold b))) size-is
+      ap (λ (n : ℕ). ltb p n && in-set (getD (sets-of fold es ++ old-sets) p []) b) size-is
       ∙ go (ltb p (length es)) refl
     where
       go : (t : Bool) → ltb p (length es) ≡ t
-          → (t && (in-set (getD (sets-of es ++ old-sets) p []) (lower-as fold b) || in-set (getD (sets-of es ++ old-sets) p []) (upper-as fold b))) ≡ met-at (meet-as fold) es p b
+          → (t && in-set (getD (sets-of fold es ++ old-sets) p []) b) ≡ met-at (meet-as fold) es p b
       go true t = met-here es p b (ltb-true p (length es) t) l
       go false t = sym (met-past es p b (ltb-false p (length es) t))
 
   pub pattern-agrees :
-      Agree (machine-of h (sets-of es ++ old-sets) (befores no-marks es ++ old-before) fold) (compiled (meet-as fold) (record { at-start = left; elems = es; at-end = right }))
+      Agree (machine-of h (sets-of fold es ++ old-sets) (befores no-marks es ++ old-before)) (compiled (meet-as fold) (record { at-start = left; elems = es; at-end = right }))
   pattern-agrees = record {
     first = first-is left;
     last = last-is right;

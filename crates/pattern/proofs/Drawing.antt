@@ -6,9 +6,10 @@ use Prim.Native.Nat.{ℕ}
 use lib.Dec.{eqb}
 use lib.ListN.{replicate}
 use borrow.Author.Tests.{eqb-true, eqb-false, eq-eqb, ne-eqb}
-use Rattle.octets.specs.Bytes.{within}
+use Rattle.octets.specs.Bytes.{within, lower, upper}
 use Rattle.octets.specs.Lists.{some-of}
-use Rattle.pattern.specs.Pattern.{Range, Atom, byte, dot, list, in-range}
+use Rattle.pattern.specs.Pattern.{Range, Atom, byte, dot, list, in-range, meets}
+use Rattle.pattern.specs.Prepared.{set-as}
 use Rattle.pattern.specs.Drawn.{drawn}
 use Rattle.pattern.specs.Sets.{words}
 use Rattle.pattern.proofs.Words.{words-ext, no-words}
@@ -64,3 +65,16 @@ unfolding drawn
 draw-dot r true e flip =
     flip (λ b. false) no-words ∙ words-ext (λ b. not (eqb b 0) && true) (λ b. not (eqb b 0)) (λ b h. and-true (not (eqb b 0)))
 draw-dot r false e flip = absurd (true≢false (sym e))
+
+-- ---- on a name, and as written
+
+pub as-name : (set r : List ℕ) (fold : Bool) → fold ≡ true → ((f : ℕ → Bool) → set ≡ words f → r ≡ words (λ b. f (lower b) || f (upper b)))
+    → (a : Atom) → set ≡ drawn true a → r ≡ set-as fold a
+unfolding drawn set-as
+as-name set r true e fo a s = fo (meets a) s
+as-name set r false e fo a s = absurd (true≢false (sym e))
+
+pub as-written : (set : List ℕ) (fold : Bool) → fold ≡ false → (a : Atom) → set ≡ drawn true a → set ≡ set-as fold a
+unfolding drawn set-as
+as-written set true e a s = absurd (true≢false e)
+as-written set false e a s = s

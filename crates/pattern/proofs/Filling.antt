@@ -16,7 +16,7 @@ use Rattle.octets.specs.Option.{_>>=_, holds}
 use Rattle.pattern.specs.Answers.{was-read, is-pattern}
 use Rattle.pattern.specs.Pattern.{Atom, Elem, Pattern}
 use Rattle.pattern.specs.Places.{map-got, body-of, PieceAt}
-use Rattle.pattern.specs.Prepared.{starred, atom-of, no-marks, mark, before-at, marks, sets-of, befores, sets-after, befores-after, marks-of, ends-anchored, shape-by, no-shape, shape-of, FilledFor, Prepared, Ready}
+use Rattle.pattern.specs.Prepared.{starred, atom-of, no-marks, mark, before-at, marks, set-as, sets-of, befores, sets-after, befores-after, marks-of, ends-anchored, shape-by, no-shape, shape-of, FilledFor, Prepared, Ready}
 use Rattle.pattern.specs.Reading.{atom, elem, Body, read-pattern}
 use Rattle.pattern.specs.Drawn.{drawn}
 use Rattle.pattern.specs.declared.edition1.Filled.{Filled}
@@ -24,7 +24,7 @@ use Rattle.pattern.specs.declared.edition1.Marks.{Marks}
 use Rattle.pattern.specs.declared.reader.Piece.{Piece}
 use Rattle.pattern.specs.declared.matcher.Shape.{Shape}
 use Rattle.pattern.proofs.Elements.{with-elem, Step, body-end, body-last, body-lost, body-more, start-of, finished, read-is, start-le, behind-le, count-empty}
-use Rattle.pattern.proofs.Positions.{at-bit}
+use Rattle.pattern.proofs.Positions.{at-bit, befores-length}
 
 -- ---- what was read
 
@@ -59,7 +59,7 @@ whole-of s n e = go (body-of true (drop (start-of s) s)) refl
 
 -- ---- the loop
 
-module _ (s : List ℕ) (w : Whole s) (old-sets : List (List ℕ)) (old-before : List ℕ) where
+module _ (fold : Bool) (s : List ℕ) (w : Whole s) (old-sets : List (List ℕ)) (old-before : List ℕ) where
   abbrev all : List Elem
   all = w .body .parts
 
@@ -68,7 +68,7 @@ module _ (s : List ℕ) (w : Whole s) (old-sets : List (List ℕ)) (old-before :
     pub reads : body-of first (drop i s) ≡ some rest
     pub marked : marks m (rest .parts) ≡ marks no-marks all
     pub right : rest .anchored ≡ w .body .anchored
-    pub stored : sets ss (m .at) (sets-of (rest .parts)) ≡ sets old-sets 0 (sets-of all)
+    pub stored : sets ss (m .at) (sets-of fold (rest .parts)) ≡ sets old-sets 0 (sets-of fold all)
     pub masked : sets bs (m .at) (befores m (rest .parts)) ≡ sets old-before 0 (befores no-marks all)
     pub few : m .at + length (rest .parts) ≤ 60
     pub room-sets : length ss ≡ 60
@@ -93,57 +93,55 @@ module _ (s : List ℕ) (w : Whole s) (old-sets : List (List ℕ)) (old-before :
       }))
 
 -- the invariant: for the pattern that the whole string is
-abbrev pub Fills : List ℕ → List (List ℕ) → List ℕ → ℕ → Bool → Marks → List (List ℕ) → List ℕ → Type 0
-Fills s old-sets old-before i first m ss bs = (w : Whole s) × Filling s w old-sets old-before i first m ss bs
+abbrev pub Fills : Bool → List ℕ → List (List ℕ) → List ℕ → ℕ → Bool → Marks → List (List ℕ) → List ℕ → Type 0
+Fills fold s old-sets old-before i first m ss bs = (w : Whole s) × Filling fold s w old-sets old-before i first m ss bs
 
-pub fill-start : (s : List ℕ) (old-sets : List (List ℕ)) (old-before : List ℕ) (i : ℕ) → is-pattern s ≡ true → length old-sets ≡ 60 → length old-before ≡ 60
-    → i ≡ start-of s → Fills s old-sets old-before i true no-marks old-sets old-before
-fill-start s old-sets old-before i e ls lb q =
+pub fill-start : (fold : Bool) (s : List ℕ) (old-sets : List (List ℕ)) (old-before : List ℕ) (i : ℕ) → is-pattern s ≡ true → length old-sets ≡ 60 → length old-before ≡ 60
+    → i ≡ start-of s → Fills fold s old-sets old-before i true no-marks old-sets old-before
+fill-start fold s old-sets old-before i e ls lb q =
     let n : length s ≡ 0 → ⊥ = λ z. true≢false (sym e ∙ sym (count-empty s z)) in
     let w = whole-of s n e in
-    (w, fill-none s w old-sets old-before i no-marks n q refl ls lb)
+    (w, fill-none fold s w old-sets old-before i no-marks n q refl ls lb)
 
 -- what the elements leave in a lent place
-lengths : (es : List Elem) → length (sets-of es) ≡ length es
-lengths [] = refl
-lengths (e ∷ es) = ap suc (lengths es)
-
-lengths-before : (m : Marks) (es : List Elem) → length (befores m es) ≡ length es
-lengths-before m [] = refl
-lengths-before m (e ∷ es) = ap suc (lengths-before (mark m (starred e)) es)
+lengths : (fold : Bool) (es : List Elem) → length (sets-of fold es) ≡ length es
+lengths fold [] = refl
+lengths fold (e ∷ es) = ap suc (lengths fold es)
 
 laid : {A : Type 0} (l old : List A) (n : ℕ) → length l ≡ n → n ≤ length old → sets old 0 l ≡ l ++ drop n old
 laid l old n e h =
     let q : length l ≤ length old = omega arith in
     sets-eq l old 0 (subst⁻¹ (λ (k : ℕ). k ≤ length old) (zero-add (length l)) q) ∙ ap (λ (k : ℕ). l ++ drop k old) (zero-add (length l) ∙ e)
 
-module _ (s : List ℕ) (w : Whole s) (old-sets : List (List ℕ)) (old-before : List ℕ) (ls : length old-sets ≡ 60) (lb : length old-before ≡ 60)
-    (i : ℕ) (first : Bool) (m : Marks) (ss : List (List ℕ)) (bs : List ℕ) (f : Filling s w old-sets old-before i first m ss bs) where
+module _ (fold : Bool) (s : List ℕ) (w : Whole s) (old-sets : List (List ℕ)) (old-before : List ℕ) (ls : length old-sets ≡ 60) (lb : length old-before ≡ 60)
+    (i : ℕ) (first : Bool) (m : Marks) (ss : List (List ℕ)) (bs : List ℕ) (f : Filling fold s w old-sets old-before i first m ss bs) where
   -- nothing is left but the anchor
   done : (right : Bool) → body-of first (drop i s) ≡ some (record { parts = []; anchored = right })
-      → FilledFor (read-pattern s) (record { marks = m; right = right }) old-sets ss old-before bs
+      → FilledFor fold (read-pattern s) (record { marks = m; right = right }) old-sets ss old-before bs
   done right e =
       let q : f .rest ≡ record { parts = []; anchored = right } =
       let z : _≡_ {A = Option Body} (some (f .rest)) (some (record { parts = []; anchored = right })) = sym (f .reads) ∙ e in cc
       in
       let p : f .rest .parts ≡ [] = ap (λ (b : Body). b .parts) q in
       let few : length (w .body .parts) ≤ 60 = w .few in
-      subst⁻¹ (λ (o : Option Pattern). FilledFor o (record { marks = m; right = right }) old-sets ss old-before bs) (w .is)
+      subst⁻¹ (λ (o : Option Pattern). FilledFor fold o (record { marks = m; right = right }) old-sets ss old-before bs) (w .is)
       (record {
         all-marks = ap (marks m) (sym p) ∙ f .marked;
         anchored = sym (ap (λ (b : Body). b .anchored) q) ∙ f .right;
         lent-sets =
-            ap (λ (l : List Elem). sets ss (m .at) (sets-of l)) (sym p) ∙ f .stored
-            ∙ laid (sets-of (w .body .parts)) old-sets (length (w .body .parts)) (lengths (w .body .parts)) (omega arith);
+            ap (λ (l : List Elem). sets ss (m .at) (sets-of fold l)) (sym p) ∙ f .stored
+            ∙ laid (sets-of fold (w .body .parts)) old-sets (length (w .body .parts)) (lengths fold (w .body .parts)) (omega arith);
         lent-before =
             ap (λ (l : List Elem). sets bs (m .at) (befores m l)) (sym p) ∙ f .masked
-            ∙ laid (befores no-marks (w .body .parts)) old-before (length (w .body .parts)) (lengths-before no-marks (w .body .parts)) (omega arith);
+            ∙ laid (befores no-marks (w .body .parts)) old-before (length (w .body .parts)) (befores-length no-marks (w .body .parts)) (omega arith);
+        room-sets = f .room-sets;
+        room-before = f .room-before;
       })
 
-  pub fill-end : length s ≤ i → FilledFor (read-pattern s) (record { marks = m; right = false }) old-sets ss old-before bs
+  pub fill-end : length s ≤ i → FilledFor fold (read-pattern s) (record { marks = m; right = false }) old-sets ss old-before bs
   fill-end h = done false (body-end s i first h)
 
-  pub fill-last : i < length s → (eqb (getD s i 0) 36 && eqb (i + 1) (length s)) ≡ true → FilledFor (read-pattern s) (record { marks = m; right = true }) old-sets ss old-before bs
+  pub fill-last : i < length s → (eqb (getD s i 0) 36 && eqb (i + 1) (length s)) ≡ true → FilledFor fold (read-pattern s) (record { marks = m; right = true }) old-sets ss old-before bs
   fill-last h e = done true (body-last s i first h e)
 
   module _ (h : i < length s) (r : Piece) (a : PieceAt (map-got (drawn true) (atom first (getD s i 0) (drop (i + 1) s))) s i r)
@@ -194,32 +192,32 @@ module _ (s : List ℕ) (w : Whole s) (old-sets : List (List ℕ)) (old-before :
         let k : m .at + length (f .rest .parts) ≤ 60 = f .few in
         omega arith
 
-    pub fill-more : (i′ : ℕ) (m′ : Marks) (v : ℕ) (t : Bool) → t ≡ repeats → i′ ≡ j → m′ ≡ mark m t → v ≡ before-at m t
-        → Filling s w old-sets old-before i′ false m′ (set ss (m .at) (r .set)) (set bs (m .at) v)
-    fill-more i′ m′ v t et ei em ev =
+    pub fill-more : (i′ : ℕ) (m′ : Marks) (u : List ℕ) (v : ℕ) (t : Bool) → ((x : Atom) → r .set ≡ drawn true x → u ≡ set-as fold x) → t ≡ repeats → i′ ≡ j → m′ ≡ mark m t → v ≡ before-at m t
+        → Filling fold s w old-sets old-before i′ false m′ (set ss (m .at) u) (set bs (m .at) v)
+    fill-more i′ m′ u v t eu et ei em ev =
         let x = split in
         let xs : List Elem = x .more .parts in
         let p : f .rest .parts ≡ elem repeats (x .value) ∷ x .more .parts = ap (λ (b : Body). b .parts) (x .is) in
         let one : starred (elem repeats (x .value)) ≡ t = starred-elem repeats (x .value) ∙ sym et in
-        let draw : drawn true (atom-of (elem repeats (x .value))) ≡ r .set = ap (drawn true) (atom-elem repeats (x .value)) ∙ x .drawing in
+        let draw : set-as fold (atom-of (elem repeats (x .value))) ≡ u = ap (set-as fold) (atom-elem repeats (x .value)) ∙ sym (eu (x .value) (sym (x .drawing))) in
         let few : m .at + length (f .rest .parts) ≤ 60 = f .few in
         let long : length (f .rest .parts) ≡ suc (length (x .more .parts)) = ap length p in
-        subst⁻¹ (λ (k : ℕ). Filling s w old-sets old-before k false m′ (set ss (m .at) (r .set)) (set bs (m .at) v)) ei
-        (subst⁻¹ (λ (k : Marks). Filling s w old-sets old-before j false k (set ss (m .at) (r .set)) (set bs (m .at) v)) em
+        subst⁻¹ (λ (k : ℕ). Filling fold s w old-sets old-before k false m′ (set ss (m .at) u) (set bs (m .at) v)) ei
+        (subst⁻¹ (λ (k : Marks). Filling fold s w old-sets old-before j false k (set ss (m .at) u) (set bs (m .at) v)) em
         (record {
           rest = x .more;
           reads = x .reads;
           marked = ap (λ (b : Bool). marks (mark m b) (x .more .parts)) (sym one) ∙ ap (marks m) (sym p) ∙ f .marked;
           right = sym (ap (λ (b : Body). b .anchored) (x .is)) ∙ f .right;
           stored =
-              ap₂ (λ (k : ℕ) (y : List ℕ). sets (set ss (m .at) y) k (sets-of (x .more .parts))) (add-one (m .at)) (sym draw)
-              ∙ ap (λ (l : List Elem). sets ss (m .at) (sets-of l)) (sym p) ∙ f .stored;
+              ap₂ (λ (k : ℕ) (y : List ℕ). sets (set ss (m .at) y) k (sets-of fold (x .more .parts))) (add-one (m .at)) (sym draw)
+              ∙ ap (λ (l : List Elem). sets ss (m .at) (sets-of fold l)) (sym p) ∙ f .stored;
           masked =
               ap₂ (λ (k : ℕ) (y : ℕ). sets (set bs (m .at) y) k (befores (mark m t) (x .more .parts))) (add-one (m .at)) ev
               ∙ ap (λ (b : Bool). sets (set bs (m .at) (before-at m b)) (suc (m .at)) (befores (mark m b) (x .more .parts))) (sym one)
               ∙ ap (λ (l : List Elem). sets bs (m .at) (befores m l)) (sym p) ∙ f .masked;
           few = omega arith;
-          room-sets = length-set ss (m .at) (r .set) ∙ f .room-sets;
+          room-sets = length-set ss (m .at) u ∙ f .room-sets;
           room-before = length-set bs (m .at) v ∙ f .room-before;
           inside = behind-le s (r .end) (a .inside);
         }))
@@ -256,23 +254,26 @@ shape-is m left right inner stops e q =
 pub accepted : (s : List ℕ) (t : Bool) → t ≡ is-pattern s → not t ≡ false → is-pattern s ≡ true
 accepted s t e n = sym e ∙ not-false t n
 
-module _ (p : List ℕ) (r : Shape) (old-sets : List (List ℕ)) (old-before : List ℕ) (t : Bool) (e : t ≡ is-pattern p) where
-  refused : (o : Option Pattern) → read-pattern p ≡ o → was-read o ≡ false → r ≡ no-shape → Prepared p r old-sets old-sets old-before old-before
-  refused none q u z =
+module _ (fold : Bool) (p : List ℕ) (r : Shape) (old-sets : List (List ℕ)) (old-before : List ℕ) (t : Bool) (e : t ≡ is-pattern p) where
+  refused : (o : Option Pattern) → read-pattern p ≡ o → was-read o ≡ false → r ≡ no-shape → length old-sets ≡ 60 → length old-before ≡ 60
+      → Prepared fold p r old-sets old-sets old-before old-before
+  refused none q u z ls lb =
       record {
         shape = z ∙ ap shape-of (sym q);
-        lent-sets = ap (λ (o : Option Pattern). sets-after o old-sets) (sym q);
+        lent-sets = ap (λ (o : Option Pattern). sets-after fold o old-sets) (sym q);
         lent-before = ap (λ (o : Option Pattern). befores-after o old-before) (sym q);
+        room-sets = ls;
+        room-before = lb;
       }
-  refused (some x) q u z = absurd (true≢false u)
+  refused (some x) q u z ls lb = absurd (true≢false u)
 
-  pub prepare-refused : not t ≡ true → r ≡ no-shape → Prepared p r old-sets old-sets old-before old-before
+  pub prepare-refused : not t ≡ true → r ≡ no-shape → length old-sets ≡ 60 → length old-before ≡ 60 → Prepared fold p r old-sets old-sets old-before old-before
   unfolding is-pattern
-  prepare-refused n z = refused (read-pattern p) refl (sym e ∙ not-true t n) z
+  prepare-refused n z ls lb = refused (read-pattern p) refl (sym e ∙ not-true t n) z ls lb
 
   pub prepare-on : (sets : List (List ℕ)) (before : List ℕ) (next : ℕ) (f : Filled) → not t ≡ false → next ≡ peek p
-      → FilledFor (read-pattern p) f old-sets sets old-before before → r ≡ shape-by (f .marks) (eqb next 94) (f .right)
-      → Prepared p r old-sets sets old-before before
+      → FilledFor fold (read-pattern p) f old-sets sets old-before before → r ≡ shape-by (f .marks) (eqb next 94) (f .right)
+      → Prepared fold p r old-sets sets old-before before
   prepare-on sets before next f n q g z =
       let y : is-pattern p ≡ true = sym e ∙ not-false t n in
       let w = whole-of p (λ k. true≢false (sym y ∙ sym (count-empty p k))) y in
@@ -283,11 +284,13 @@ module _ (p : List ℕ) (r : Shape) (old-sets : List (List ℕ)) (old-before : L
             ∙ ap (λ (o : Option Pattern). shape-by (marks-of o) (eqb (peek p) 94) (ends-anchored o)) (w .is) ∙ ap shape-of (sym (w .is));
         lent-sets = g .lent-sets;
         lent-before = g .lent-before;
+        room-sets = g .room-sets;
+        room-before = g .room-before;
       }
 
-pub prepared-ready : (p : List ℕ) (h : Shape) (old-sets sets : List (List ℕ)) (old-before before : List ℕ) → Prepared p h old-sets sets old-before before
-    → Ready p h sets before
-prepared-ready p h old-sets sets old-before before q = record { old-sets = old-sets; old-before = old-before; prepared = q }
+pub prepared-ready : (fold : Bool) (p : List ℕ) (h : Shape) (old-sets sets : List (List ℕ)) (old-before before : List ℕ) → Prepared fold p h old-sets sets old-before before
+    → Ready fold p h sets before
+prepared-ready fold p h old-sets sets old-before before q = record { old-sets = old-sets; old-before = old-before; prepared = q }
 
 -- a pattern has at most 60 positions
 size-few : (p : List ℕ) (o : Option Pattern) → read-pattern p ≡ o → shape-of o .size ≤ 60
@@ -302,5 +305,5 @@ size-few p (some x) e =
     let f : length (w .body .parts) ≤ 60 = w .few in
     omega (arith, at-bit no-marks (x .elems))
 
-pub ready-few : (p : List ℕ) (h : Shape) (sets : List (List ℕ)) (before : List ℕ) → Ready p h sets before → h .size ≤ 60
-ready-few p h sets before r = subst⁻¹ (λ (k : Shape). k .size ≤ 60) (r .prepared .shape) (size-few p (read-pattern p) refl)
+pub ready-few : (fold : Bool) (p : List ℕ) (h : Shape) (sets : List (List ℕ)) (before : List ℕ) → Ready fold p h sets before → h .size ≤ 60
+ready-few fold p h sets before r = subst⁻¹ (λ (k : Shape). k .size ≤ 60) (r .prepared .shape) (size-few p (read-pattern p) refl)

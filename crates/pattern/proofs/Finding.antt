@@ -7,7 +7,7 @@ use Prim.Native.Nat.{ℕ, zero, suc, _+_, _<_, _≤_}
 use native.Mathlib.Omega.{arith}
 use lib.Dec.{T, eqb, eqb→eq, leb, ltb}
 use lib.ListN.{length, drop}
-use borrow.Author.Tests.{leb-true, leb-false, lt-leb, ltb-true, ltb-false, not-true, not-false}
+use borrow.Author.Tests.{leb-true, leb-false, lt-leb, ltb-true, ltb-false, eqb-true, eqb-false, not-true, not-false}
 use Rattle.octets.specs.Lists.{pick}
 use Rattle.octets.proofs.Bits.{bit-zero}
 use Rattle.octets.proofs.Tests.{both, left, right, or-left, or-right, or-cases, T-of, not-T-of, is-true}
@@ -25,11 +25,11 @@ use Rattle.pattern.proofs.Compiled.{compiled, starts-front, front-start
 -- ---- the smallest
 
 -- r is the first from `from` on, of n, that passes
-record First (f : ℕ → Bool) (n from r : ℕ) : Type 0 where
-  above : from ≤ r
-  within : r ≤ from + n
-  before : (j : ℕ) → from ≤ j → j < r → f j ≡ false
-  found : r < from + n → f r ≡ true
+pub record First (f : ℕ → Bool) (n from r : ℕ) : Type 0 where
+  pub above : from ≤ r
+  pub within : r ≤ from + n
+  pub before : (j : ℕ) → from ≤ j → j < r → f j ≡ false
+  pub found : r < from + n → f r ≡ true
 
 first-is : (f : ℕ → Bool) (n from r : ℕ) → First f n from r → r ≡ smallest f n from
 first-is f zero from r s = let a : from ≤ r = s .above in let b : r ≤ from + 0 = s .within in omega arith
@@ -52,6 +52,21 @@ first-is f (suc n) from r s = go (f from) refl (λ t. first-is f n (from + 1) r 
             let a : from ≤ r = s .above in
             let z : from ≡ r = omega arith in
             absurd (true≢false (sym (s .found (omega arith)) ∙ ap f (sym z) ∙ e))
+
+pub first-of-smallest : (f : ℕ → Bool) (n from : ℕ) → First f n from (smallest f n from)
+first-of-smallest f zero from = record { above = omega arith; within = omega arith; before = λ j k l. absurd (omega arith); found = λ l. absurd (omega arith) }
+first-of-smallest f (suc n) from = go (f from) refl (first-of-smallest f n (from + 1))
+  where
+    go : (t : Bool) → f from ≡ t → First f n (from + 1) (smallest f n (from + 1)) → First f (suc n) from (pick t from (smallest f n (from + 1)))
+    go true e s = record { above = omega arith; within = omega arith; before = λ j k l. absurd (omega arith); found = λ l. e }
+    go false e s =
+        let a : from + 1 ≤ smallest f n (from + 1) = s .above in
+        let b : smallest f n (from + 1) ≤ from + 1 + n = s .within in
+        record { above = omega arith; within = omega arith; before = λ j k l. at j k l (eqb j from) refl; found = λ l. s .found (omega arith) }
+      where
+        at : (j : ℕ) → from ≤ j → j < smallest f n (from + 1) → (u : Bool) → eqb j from ≡ u → f j ≡ false
+        at j k l true u = ap f (eqb-true j from u) ∙ e
+        at j k l false u = let d = eqb-false j from u in s .before j (omega arith) l
 
 -- ---- somewhere in the text
 
@@ -137,7 +152,7 @@ module _ (fold start end : Bool) (es : List Elem) (s : List ℕ) where
 
 module _ (fold : Bool) (t : List ℕ) (r : ℕ) (bytes : Bytes t) where
   -- the machine with no position takes no part
-  nothing : (sets : List (List ℕ)) (before : List ℕ) (a : Bool) (l : List ℕ) → Starts (machine-of no-shape sets before fold) a l → ⊥
+  nothing : (sets : List (List ℕ)) (before : List ℕ) (a : Bool) (l : List ℕ) → Starts (machine-of no-shape sets before) a l → ⊥
   nothing sets before true [] (starts-none z) = z
   nothing sets before true (b ∷ l) (starts-none z) = z
   nothing sets before false [] (starts-none z) = z
@@ -146,41 +161,43 @@ module _ (fold : Bool) (t : List ℕ) (r : ℕ) (bytes : Bytes t) where
   nothing sets before false l (starts-live {p = p} f v) = not-T-of (bit-zero p) f
 
   found-as : (o : Option Pattern) (old-sets : List (List ℕ)) (old-before : List ℕ)
-      → Leftmost (machine-of (shape-of o) (sets-after o old-sets) (befores-after o old-before) fold) t r
-      → (r ≡ first-of fold o t) × (leb r (length t) ≡ read-matches fold o t)
+      → Leftmost (machine-of (shape-of o) (sets-after fold o old-sets) (befores-after o old-before)) t r → r ≡ first-of fold o t
   found-as none old-sets old-before l =
       let w : r ≤ length t + 1 = l .within in
       let past : length t < r = high (leb r (length t)) refl in
-      (omega arith, lt-leb r (length t) past)
+      omega arith
     where
       high : (u : Bool) → leb r (length t) ≡ u → length t < r
       high true u = absurd (nothing old-sets old-before (eqb r 0) (drop r t) (l .found (leb-true r (length t) u)))
       high false u = leb-false r (length t) u
   found-as (some p) old-sets old-before l =
-      let f : First (fits-from fold p t) (suc (length t)) 0 r =
-      leftmost-fits fold (p .at-start) (p .at-end) (p .elems) t r
-      (leftmost-agree t r (pattern-agrees fold (p .at-start) (p .at-end) (p .elems) (drop (length (p .elems)) old-sets) (drop (length (p .elems)) old-before)) bytes l)
-      in (
-        first-is (fits-from fold p t) (suc (length t)) 0 r f,
-        found-whole fold (p .at-start) (p .at-end) (p .elems) t r f ∙ matches-is fold (p .at-start) (p .at-end) (p .elems) t,
-      )
+      first-is (fits-from fold p t) (suc (length t)) 0 r
+      (leftmost-fits fold (p .at-start) (p .at-end) (p .elems) t r
+      (leftmost-agree t r (pattern-agrees fold (p .at-start) (p .at-end) (p .elems) (drop (length (p .elems)) old-sets) (drop (length (p .elems)) old-before)) bytes l))
 
-  module _ (p : List ℕ) (h : Shape) (sets : List (List ℕ)) (before : List ℕ) (ready : Ready p h sets before) (l : Leftmost (machine-of h sets before fold) t r) where
-    found-both : (r ≡ first-of fold (read-pattern p) t) × (leb r (length t) ≡ read-matches fold (read-pattern p) t)
-    found-both =
-        let q = ready .prepared in
-        found-as (read-pattern p) (ready .old-sets) (ready .old-before)
-        (subst (λ (x : List ℕ). Leftmost (machine-of (shape-of (read-pattern p)) (sets-after (read-pattern p) (ready .old-sets)) x fold) t r) (q .lent-before)
-        (subst (λ (x : List (List ℕ)). Leftmost (machine-of (shape-of (read-pattern p)) x before fold) t r) (q .lent-sets)
-        (subst (λ (x : Shape). Leftmost (machine-of x sets before fold) t r) (q .shape) l)))
+  pub found-first : (p : List ℕ) (h : Shape) (sets : List (List ℕ)) (before : List ℕ) → Ready fold p h sets before → Leftmost (machine-of h sets before) t r
+      → r ≡ first-fit fold p t
+  unfolding first-fit
+  found-first p h sets before ready l =
+      let q = ready .prepared in
+      found-as (read-pattern p) (ready .old-sets) (ready .old-before)
+      (subst (λ (x : List ℕ). Leftmost (machine-of (shape-of (read-pattern p)) (sets-after fold (read-pattern p) (ready .old-sets)) x) t r) (q .lent-before)
+      (subst (λ (x : List (List ℕ)). Leftmost (machine-of (shape-of (read-pattern p)) x before) t r) (q .lent-sets)
+      (subst (λ (x : Shape). Leftmost (machine-of x sets before) t r) (q .shape) l)))
 
-    pub found-first : r ≡ first-fit fold p t
-    unfolding first-fit
-    found-first = found-both .0
+-- a pattern matches exactly if the smallest place lies within the text
+pub first-meets : (fold : Bool) (p t : List ℕ) → leb (first-fit fold p t) (length t) ≡ meets-text fold p t
+unfolding first-fit meets-text
+first-meets fold p t = go (read-pattern p)
+  where
+    go : (o : Option Pattern) → leb (first-of fold o t) (length t) ≡ read-matches fold o t
+    go none = lt-leb (suc (length t)) (length t) (omega arith)
+    go (some x) =
+        found-whole fold (x .at-start) (x .at-end) (x .elems) t (first-of fold (some x) t) (first-of-smallest (fits-from fold x t) (suc (length t)) 0)
+        ∙ matches-is fold (x .at-start) (x .at-end) (x .elems) t
 
-    pub found-meets : leb r (length t) ≡ meets-text fold p t
-    unfolding meets-text
-    found-meets = found-both .1
+pub place-meets : (fold : Bool) (p t : List ℕ) (r : ℕ) → r ≡ first-fit fold p t → leb r (length t) ≡ meets-text fold p t
+place-meets fold p t r e = ap (λ (n : ℕ). leb n (length t)) e ∙ first-meets fold p t
 
 -- ---- the answer in one word
 

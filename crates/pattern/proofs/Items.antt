@@ -1,6 +1,6 @@
 -- The items of a bracket list, by place.
 use mathlib.Core.Path.{_≡_, refl, sym, ap, ap₂, _∙_, subst⁻¹}
-use mathlib.Core.Bool.{Bool, true, false, not, _&&_, _||_, true≢false}
+use mathlib.Core.Bool.{Bool, true, false, not, _&&_, _||_, true≢false, or-assoc, or-false}
 use mathlib.Core.Option.{Option, none}
 use mathlib.Core.List.{List}
 use Prim.Native.Nat.{ℕ, _+_, _<_, _≤_}
@@ -9,13 +9,27 @@ use lib.Dec.{leb, eqb}
 use lib.ListN.{length, getD, drop}
 use lib.Seq.{drop-drop}
 use borrow.Author.Tests.{ne-eqb, eq-eqb, le-leb, lt-leb, not-true, not-false}
-use Rattle.octets.specs.Lists.{text, pick, some-of, peek}
+use Rattle.octets.specs.Lists.{pick, peek}
 use Rattle.octets.specs.Option.{_>>=_, holds}
 use Rattle.pattern.specs.Pattern.{Range}
 use Rattle.pattern.specs.Places.{ItemAt}
 use Rattle.pattern.specs.Reading.{Read, read, class-opens, range-opens, range, single, begins-item, item}
 use Rattle.pattern.specs.declared.reader.Item.{Item}
 use Rattle.pattern.proofs.Places.{peek-in, peek-inside}
+
+-- ---- the tests of one byte and the next
+
+pub class-test : (b next : ℕ) (u : List ℕ) → next ≡ peek u → (eqb b 91 && (eqb next 46 || eqb next 61 || eqb next 58)) ≡ class-opens b u
+class-test b next u e =
+    ap (λ (n : ℕ). eqb b 91 && (eqb n 46 || eqb n 61 || eqb n 58)) e
+    ∙ ap (λ (t : Bool). eqb b 91 && t) (or-assoc (eqb (peek u) 46) (eqb (peek u) 61) (eqb (peek u) 58)
+    ∙ ap (λ (t : Bool). eqb (peek u) 46 || (eqb (peek u) 61 || t)) (sym (or-false (eqb (peek u) 58))))
+
+pub begins-test : (first : Bool) (b next : ℕ) (t : Bool) → ((u : List ℕ) → next ≡ peek u → t ≡ class-opens b u) → (u : List ℕ) → next ≡ peek u
+    → ((not (eqb b 45) || first || eqb next 93) && not t) ≡ (begins-item first b u && not (class-opens b u))
+begins-test first b next t k u e = ap₂ (λ (n : ℕ) (x : Bool). (not (eqb b 45) || first || eqb n 93) && not x) e (k u e)
+
+-- ---- answers
 
 abbrev no-item : Item
 no-item = record { end = 0; lo = 0; hi = 0 }
@@ -72,9 +86,9 @@ module _ (s : List ℕ) (i : ℕ) (h : i + 2 < length s) where
       item-none (range (getD s i 0) (drop (i + 1) s)) s i r
       (range-is ∙ stopped _ _ (ap (λ (t : Bool). t && not (class-opens (getD s (i + 2) 0) (drop (i + 3) s))) (lt-leb (getD s i 0) (getD s (i + 2) 0) l))) q
 
-  module _ (next : ℕ) (n : next ≡ peek (drop (i + 3) s)) (t : Bool) (k : t ≡ (eqb (getD s (i + 2) 0) 91 && some-of (eqb next) (text ".=:"))) where
+  module _ (next : ℕ) (n : next ≡ peek (drop (i + 3) s)) (t : Bool) (k : (u : List ℕ) → next ≡ peek u → t ≡ class-opens (getD s (i + 2) 0) u) where
     class-is : t ≡ class-opens (getD s (i + 2) 0) (drop (i + 3) s)
-    class-is = k ∙ ap (λ (x : ℕ). eqb (getD s (i + 2) 0) 91 && some-of (eqb x) (text ".=:")) n
+    class-is = k (drop (i + 3) s) n
 
     pub range-class : (r : Item) → r ≡ no-item → t ≡ true → ItemAt (range (getD s i 0) (drop (i + 1) s)) s i r
     unfolding range-by
@@ -101,7 +115,7 @@ item-inside s i end g m = peek-inside s (i + 2) (λ z. true≢false (sym (tail (
     tail false q = q
 
 module _ (s : List ℕ) (i : ℕ) (first : Bool) (h : i < length s) (next : ℕ) (n : next ≡ peek (drop (i + 1) s)) (t : Bool)
-    (k : t ≡ ((not (eqb (getD s i 0) 45) || first || eqb next 93) && not (eqb (getD s i 0) 91 && some-of (eqb next) (text ".=:")))) where
+    (k : (u : List ℕ) → next ≡ peek u → t ≡ (begins-item first (getD s i 0) u && not (class-opens (getD s i 0) u))) where
   abbrev b : ℕ
   b = getD s i 0
 
@@ -109,7 +123,7 @@ module _ (s : List ℕ) (i : ℕ) (first : Bool) (h : i < length s) (next : ℕ)
   rest = drop (i + 1) s
 
   begins-is : t ≡ (begins-item first b rest && not (class-opens b rest))
-  begins-is = k ∙ ap (λ (x : ℕ). (not (eqb b 45) || first || eqb x 93) && not (eqb b 91 && some-of (eqb x) (text ".=:"))) n
+  begins-is = k rest n
 
   pub item-not : (r : Item) → r ≡ no-item → not t ≡ true → ItemAt (item first b rest) s i r
   item-not r q e = item-none (item first b rest) s i r (stopped _ _ (sym begins-is ∙ not-true t e)) q

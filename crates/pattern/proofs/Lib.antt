@@ -1,4 +1,5 @@
 pub mod Agreeing
+pub mod Answers
 pub mod Atoms
 pub mod Choosing
 pub mod Compiled

@@ -12,12 +12,12 @@ use Rattle.pattern.specs.Matching.{repeated, single-then, front, somewhe
 
 module _ (meet : Atom → ℕ → Bool) (end : Bool) where
   -- a front part of s fits the elements, and nothing is left where the end is anchored
-  record Front (es : List Elem) (s : List ℕ) : Type 0 where
-    part : List ℕ
-    after : List ℕ
-    cut : s ≡ part ++ after
-    fits : Fits meet es part
-    ends : T end → after ≡ []
+  pub record Front (es : List Elem) (s : List ℕ) : Type 0 where
+    pub part : List ℕ
+    pub after : List ℕ
+    pub cut : s ≡ part ++ after
+    pub fits : Fits meet es part
+    pub ends : T end → after ≡ []
 
   empty-nil : (s : List ℕ) → T (empty s) → s ≡ []
   empty-nil [] h = refl
@@ -59,7 +59,7 @@ unfolding front
 nothing-left meet true s h = record { part = []; after = s; cut = refl; fits = done; ends = λ t. empty-nil meet true s h }
 nothing-left meet false s h = record { part = []; after = s; cut = refl; fits = done; ends = λ t. absurd t }
 
-front-sound : (meet : Atom → ℕ → Bool) (end : Bool) (es : List Elem) (s : List ℕ) → T (front meet end es s) → Front meet end es s
+pub front-sound : (meet : Atom → ℕ → Bool) (end : Bool) (es : List Elem) (s : List ℕ) → T (front meet end es s) → Front meet end es s
 unfolding front
 front-sound meet end [] s h = nothing-left meet end s h
 front-sound meet end (once a ∷ es) s h = single-sound meet end a es (front meet end es) (front-sound meet end es) s h
@@ -70,7 +70,7 @@ unfolding front
 front-end meet true after h = subst (λ (s : List ℕ). T (empty s)) (sym (h tt)) tt
 front-end meet false after h = tt
 
-front-complete : (meet : Atom → ℕ → Bool) (end : Bool) {es : List Elem} {part : List ℕ} (after : List ℕ) → (T end → after ≡ [])
+pub front-complete : (meet : Atom → ℕ → Bool) (end : Bool) {es : List Elem} {part : List ℕ} (after : List ℕ) → (T end → after ≡ [])
     → Fits meet es part → T (front meet end es (part ++ after))
 unfolding front
 front-complete meet end after h done = front-end meet end after h

@@ -9,7 +9,7 @@ use lib.Dec.{eqb, ltb}
 use lib.ListN.{length, getD, drop, drop-of-length-le}
 use lib.Seq.{drop-cons}
 use borrow.Author.Tests.{ltb-true, ltb-false, eq-eqb, ne-eqb}
-use Rattle.octets.specs.Lists.{pick, empty, peek}
+use Rattle.octets.specs.Lists.{empty, peek}
 
 pub peek-in : (s : List ℕ) (i : ℕ) → i < length s → getD s i 0 ≡ peek (drop i s)
 peek-in s i h = sym (ap peek (drop-cons s i 0 h))
@@ -39,10 +39,3 @@ empty-at s i h = go (ltb i (length s)) refl
     go false e =
         let q : length s ≤ i = ltb-false i (length s) e in
         rw (drop-of-length-le s q) (sym (eq-eqb i (length s) (omega arith)))
-
--- the byte that stands there decides
-pub peek-yes : {A : Type 0} (s : List ℕ) (i next c : ℕ) (x y : A) → next ≡ peek (drop i s) → next ≡ c → x ≡ pick (eqb (peek (drop i s)) c) x y
-peek-yes s i next c x y n e = ap (λ (t : Bool). pick t x y) (sym (eq-eqb (peek (drop i s)) c (sym n ∙ e)))
-
-pub peek-no : {A : Type 0} (s : List ℕ) (i next c : ℕ) (x y : A) → next ≡ peek (drop i s) → (next ≡ c → ⊥) → y ≡ pick (eqb (peek (drop i s)) c) x y
-peek-no s i next c x y n e = ap (λ (t : Bool). pick t x y) (sym (ne-eqb (peek (drop i s)) c (λ z. e (n ∙ z))))

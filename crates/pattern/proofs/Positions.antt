@@ -186,6 +186,10 @@ pub at-bit : (m : Marks) (es : List Elem) → marks m es .at ≡ m .at + length 
 at-bit m [] = sym (add-zero (m .at))
 at-bit m (e ∷ es) = let z : m .at + 1 + length es ≡ m .at + suc (length es) = omega arith in at-bit (mark m (starred e)) es ∙ z
 
+pub befores-length : (m : Marks) (es : List Elem) → length (befores m es) ≡ length es
+befores-length m [] = refl
+befores-length m (e ∷ es) = ap suc (befores-length (mark m (starred e)) es)
+
 pub follows-past : (es : List Elem) (p q : ℕ) → length es ≤ q → follows es p q ≡ false
 follows-past [] p q h = refl
 follows-past (e ∷ es) p zero h = absurd (omega arith)

@@ -13,7 +13,7 @@ use Rattle.octets.specs.Bits.{bit}
 use Rattle.octets.specs.Lists.{pick, empty}
 use Rattle.octets.proofs.Bits.{bit-zero, bit-or, common, share}
 use Rattle.octets.proofs.Tests.{T-of, not-T-of, both, left, right, or-left, or-right, or-cases}
-use Rattle.pattern.specs.Machine.{Machine, Live, live-end, live-on, Starts, starts-none, starts-live, StartsAt, Leftmost, first-mask, last-mask, null-at, lower-as, upper-as, met, machine-of, Stepped}
+use Rattle.pattern.specs.Machine.{Machine, Live, live-end, live-on, Starts, starts-none, starts-live, StartsAt, Leftmost, first-mask, last-mask, null-at, met, machine-of, Stepped}
 use Rattle.pattern.specs.Sets.{in-set}
 use Rattle.pattern.specs.declared.matcher.Shape.{Shape}
 use Rattle.pattern.proofs.Places.{drop-at, empty-at}
@@ -26,9 +26,9 @@ live-cons (live-on m f v) = tt
 pub dead : {M : Machine} {p : ℕ} → Live M p [] → ⊥
 dead v = live-cons v
 
-module _ (h : Shape) (sets : List (List ℕ)) (before : List ℕ) (fold : Bool) where
+module _ (h : Shape) (sets : List (List ℕ)) (before : List ℕ) where
   abbrev mach : Machine
-  mach = machine-of h sets before fold
+  mach = machine-of h sets before
 
   -- `live` are the positions that are live before l, `next` those that may stand before one of them
   pub record Scanned (live next : ℕ) (l : List ℕ) : Type 0 where
@@ -47,18 +47,18 @@ module _ (h : Shape) (sets : List (List ℕ)) (before : List ℕ) (fold : Bool) 
       }
 
   -- a live position is one
-  met-position : (p x y : ℕ) → T (met (h .size) sets x y p) → T (ltb p (h .size))
+  met-position : (p b : ℕ) → T (met (h .size) sets b p) → T (ltb p (h .size))
   unfolding met
-  met-position p x y m = left (ltb p (h .size)) (in-set (getD sets p []) x || in-set (getD sets p []) y) m
+  met-position p b m = left (ltb p (h .size)) (in-set (getD sets p []) b) m
 
   live-position : {p : ℕ} {l : List ℕ} → Live mach p l → T (ltb p (h .size))
-  live-position (live-end {p = p} {b = b} m z) = met-position p (lower-as fold b) (upper-as fold b) m
-  live-position (live-on {p = p} {b = b} m f v) = met-position p (lower-as fold b) (upper-as fold b) m
+  live-position (live-end {p = p} {b = b} m z) = met-position p b m
+  live-position (live-on {p = p} {b = b} m f v) = met-position p b m
 
   module _ (b live next stop live′ next′ : ℕ) (l : List ℕ) (s : Scanned live next l) (e : stop ≡ last-mask h (empty l))
-      (r : Stepped sets before (h .size) (bitOr next stop) (lower-as fold b) (upper-as fold b) 0 live′ next′) where
+      (r : Stepped sets before (h .size) (bitOr next stop) b 0 live′ next′) where
     abbrev meet : ℕ → Bool
-    meet p = met (h .size) sets (lower-as fold b) (upper-as fold b) p
+    meet p = met (h .size) sets b p
 
     kept-is : (p : ℕ) → bit live′ p ≡ ((bit next p || bit stop p) && true && meet p)
     kept-is p =
@@ -141,36 +141,36 @@ from-past M s v =
 -- ---- the loop
 
 -- the scan has come down to i, and r is the smallest place from there on
-pub record Scan (h : Shape) (sets : List (List ℕ)) (before : List ℕ) (fold : Bool) (text : List ℕ) (i next r : ℕ) : Type 0 where
+pub record Scan (h : Shape) (sets : List (List ℕ)) (before : List ℕ) (text : List ℕ) (i next r : ℕ) : Type 0 where
   pub live : ℕ
   pub inside : i ≤ length text
-  pub bits : Scanned h sets before fold live next (drop i text)
-  pub place : From (machine-of h sets before fold) text i r
+  pub bits : Scanned h sets before live next (drop i text)
+  pub place : From (machine-of h sets before) text i r
 
-module _ (h : Shape) (sets : List (List ℕ)) (before : List ℕ) (fold : Bool) (text : List ℕ) where
+module _ (h : Shape) (sets : List (List ℕ)) (before : List ℕ) (text : List ℕ) where
   abbrev M : Machine
-  M = machine-of h sets before fold
+  M = machine-of h sets before
 
   abbrev tested : ℕ → Bool → ℕ → Bool
-  tested j e live = test h sets before fold (eqb j 0) e live
+  tested j e live = test h sets before (eqb j 0) e live
 
-  at-end : Scanned h sets before fold 0 0 (drop (length text) text)
-  at-end = rw (drop-length text) (scan-none h sets before fold)
+  at-end : Scanned h sets before 0 0 (drop (length text) text)
+  at-end = rw (drop-length text) (scan-none h sets before)
 
-  starts-if : (j live next : ℕ) (e : Bool) → empty (drop j text) ≡ e → Scanned h sets before fold live next (drop j text) → tested j e live ≡ true → StartsAt M text j
-  starts-if j live next e z s t = begun h sets before fold (eqb j 0) live next (drop j text) s (subst⁻¹ (λ (x : Bool). T (tested j x live)) z (T-of t))
+  starts-if : (j live next : ℕ) (e : Bool) → empty (drop j text) ≡ e → Scanned h sets before live next (drop j text) → tested j e live ≡ true → StartsAt M text j
+  starts-if j live next e z s t = begun h sets before (eqb j 0) live next (drop j text) s (subst⁻¹ (λ (x : Bool). T (tested j x live)) z (T-of t))
 
-  starts-not : (j live next : ℕ) (e : Bool) → empty (drop j text) ≡ e → Scanned h sets before fold live next (drop j text) → tested j e live ≡ false → StartsAt M text j → ⊥
+  starts-not : (j live next : ℕ) (e : Bool) → empty (drop j text) ≡ e → Scanned h sets before live next (drop j text) → tested j e live ≡ false → StartsAt M text j → ⊥
   starts-not j live next e z s t v =
-      not-T-of t (subst (λ (x : Bool). T (tested j x live)) z (begun′ h sets before fold (eqb j 0) live next (drop j text) s v))
+      not-T-of t (subst (λ (x : Bool). T (tested j x live)) z (begun′ h sets before (eqb j 0) live next (drop j text) s v))
 
   none-left : empty (drop (length text) text) ≡ true
   none-left = rw (drop-length text) refl
 
-  pub scan-end : (r : ℕ) → r ≡ pick (tested (length text) true 0) (length text) (length text + 1) → Scan h sets before fold text (length text) 0 r
-  scan-end r e = subst⁻¹ (λ (k : ℕ). Scan h sets before fold text (length text) 0 k) e (go (tested (length text) true 0) refl)
+  pub scan-end : (r : ℕ) → r ≡ pick (tested (length text) true 0) (length text) (length text + 1) → Scan h sets before text (length text) 0 r
+  scan-end r e = subst⁻¹ (λ (k : ℕ). Scan h sets before text (length text) 0 k) e (go (tested (length text) true 0) refl)
     where
-      go : (t : Bool) → tested (length text) true 0 ≡ t → Scan h sets before fold text (length text) 0 (pick t (length text) (length text + 1))
+      go : (t : Bool) → tested (length text) true 0 ≡ t → Scan h sets before text (length text) 0 (pick t (length text) (length text + 1))
       go true q =
           record {
             live = 0;
@@ -182,27 +182,24 @@ module _ (h : Shape) (sets : List (List ℕ)) (before : List ℕ) (fold : Bool) 
           record { live = 0; inside = omega arith; bits = at-end; place = from-past M text (starts-not (length text) 0 0 true none-left at-end q) }
 
   -- from i to j = i - 1
-  module _ (i j next r stop live′ next′ : ℕ) (d : i ≡ j + 1) (s : Scan h sets before fold text i next r) (e : stop ≡ last-mask h (eqb i (length text)))
-      (x y : ℕ) (ex : x ≡ lower-as fold (getD text j 0)) (ey : y ≡ upper-as fold (getD text j 0))
-      (w : Stepped sets before (h .size) (bitOr next stop) x y 0 live′ next′) where
+  module _ (i j next r stop live′ next′ : ℕ) (d : i ≡ j + 1) (s : Scan h sets before text i next r) (e : stop ≡ last-mask h (eqb i (length text)))
+      (w : Stepped sets before (h .size) (bitOr next stop) (getD text j 0) 0 live′ next′) where
     in-text : j < length text
     in-text = let k : i ≤ length text = s .inside in omega arith
 
     here : drop j text ≡ getD text j 0 ∷ drop i text
     here = drop-at text j in-text ∙ ap (λ (n : ℕ). getD text j 0 ∷ drop n text) (sym d)
 
-    bits-now : Scanned h sets before fold live′ next′ (drop j text)
+    bits-now : Scanned h sets before live′ next′ (drop j text)
     bits-now =
-        subst⁻¹ (λ (l : List ℕ). Scanned h sets before fold live′ next′ l) here
-        (scan-more h sets before fold (getD text j 0) (s .live) next stop live′ next′ (drop i text) (s .bits)
-        (e ∙ ap (last-mask h) (sym (empty-at text i (s .inside))))
-        (subst (λ (n : ℕ). Stepped sets before (h .size) (bitOr next stop) (lower-as fold (getD text j 0)) n 0 live′ next′) ey
-        (subst (λ (n : ℕ). Stepped sets before (h .size) (bitOr next stop) n y 0 live′ next′) ex w)))
+        subst⁻¹ (λ (l : List ℕ). Scanned h sets before live′ next′ l) here
+        (scan-more h sets before (getD text j 0) (s .live) next stop live′ next′ (drop i text) (s .bits)
+        (e ∙ ap (last-mask h) (sym (empty-at text i (s .inside)))) w)
 
     some-left : empty (drop j text) ≡ false
     some-left = ap empty here
 
-    pub scan-hit : (t : Bool) → t ≡ tested j false live′ → t ≡ true → Scan h sets before fold text j next′ j
+    pub scan-hit : (t : Bool) → t ≡ tested j false live′ → t ≡ true → Scan h sets before text j next′ j
     scan-hit t f q =
         let k : j < length text = in-text in
         record {
@@ -212,7 +209,7 @@ module _ (h : Shape) (sets : List (List ℕ)) (before : List ℕ) (fold : Bool) 
           place = from-hit M text j (omega arith) (starts-if j live′ next′ false some-left bits-now (sym f ∙ q));
         }
 
-    pub scan-miss : (t : Bool) → t ≡ tested j false live′ → t ≡ false → Scan h sets before fold text j next′ r
+    pub scan-miss : (t : Bool) → t ≡ tested j false live′ → t ≡ false → Scan h sets before text j next′ r
     scan-miss t f q =
         let k : j < length text = in-text in
         record {
@@ -222,7 +219,7 @@ module _ (h : Shape) (sets : List (List ℕ)) (before : List ℕ) (fold : Bool) 
           place = from-miss M text i j r d (s .place) (starts-not j live′ next′ false some-left bits-now (sym f ∙ q));
         }
 
-  pub scan-all : (i next r : ℕ) → i ≤ 0 → Scan h sets before fold text i next r → Leftmost M text r
+  pub scan-all : (i next r : ℕ) → i ≤ 0 → Scan h sets before text i next r → Leftmost M text r
   scan-all i next r z s =
       record {
         within = s .place .within;

@@ -15,11 +15,11 @@ use Rattle.octets.proofs.Tests.{T-of, not-T-of, is-true, left, or-left, or-righ
 use Rattle.pattern.specs.Machine.{met, Stepped}
 use Rattle.pattern.specs.Sets.{in-set}
 
-module _ (sets : List (List ℕ)) (before : List ℕ) (size candidates x y : ℕ) where
+module _ (sets : List (List ℕ)) (before : List ℕ) (size candidates b : ℕ) where
   pub record Stepping (rest live next : ℕ) : Type 0 where
     pub fits : rest < 2 ^ 64
     pub among : (k : ℕ) → T (bit rest k) → T (bit candidates k)
-    pub done : Stepped sets before size candidates x y rest live next
+    pub done : Stepped sets before size candidates b rest live next
 
   pub step-none : candidates < 2 ^ 64 → Stepping candidates 0 0
   step-none h =
@@ -28,7 +28,7 @@ module _ (sets : List (List ℕ)) (before : List ℕ) (size candidates x y : ℕ
         among = λ k t. t;
         done =
             record {
-              kept = λ k. bit-zero k ∙ sym (ap (λ (t : Bool). t && met size sets x y k) (excluded (bit candidates k)));
+              kept = λ k. bit-zero k ∙ sym (ap (λ (t : Bool). t && met size sets b k) (excluded (bit candidates k)));
               back = λ p t. absurd (not-T-of (bit-zero p) t);
               forth = λ p q t u. absurd (not-T-of (bit-zero q) t);
             };
@@ -38,8 +38,8 @@ module _ (sets : List (List ℕ)) (before : List ℕ) (size candidates x y : ℕ
       excluded true = refl
       excluded false = refl
 
-  pub step-all : (rest live next : ℕ) → Stepping rest live next → rest ≡ 0 → Stepped sets before size candidates x y 0 live next
-  step-all rest live next s e = subst (λ (n : ℕ). Stepped sets before size candidates x y n live next) e (s .done)
+  pub step-all : (rest live next : ℕ) → Stepping rest live next → rest ≡ 0 → Stepped sets before size candidates b 0 live next
+  step-all rest live next s e = subst (λ (n : ℕ). Stepped sets before size candidates b n live next) e (s .done)
 
   -- the lowest candidate p that is left is taken
   module _ (rest live next : ℕ) (s : Stepping rest live next) (n : rest ≡ 0 → ⊥) (p : ℕ) (e : p ≡ trailingZeros 64 rest) where
@@ -68,26 +68,26 @@ module _ (sets : List (List ℕ)) (before : List ℕ) (size candidates x y : ℕ
     step-among k t = s .among k (left (bit rest k) (not (eqb k p)) (subst T (taken k) t))
 
     -- p was a candidate, and is now no longer left
-    module _ (m : Bool) (mp : met size sets x y p ≡ m) where
-      kept-turn : (k : ℕ) (t : Bool) → eqb k p ≡ t → ((bit candidates k && not (bit rest k) && met size sets x y k) || (t && m)) ≡ (bit candidates k && not (bit rest k && not t) && met size sets x y k)
+    module _ (m : Bool) (mp : met size sets b p ≡ m) where
+      kept-turn : (k : ℕ) (t : Bool) → eqb k p ≡ t → ((bit candidates k && not (bit rest k) && met size sets b k) || (t && m)) ≡ (bit candidates k && not (bit rest k && not t) && met size sets b k)
       kept-turn k true q =
           let z : k ≡ p = eqb-true k p q in
           let r : bit rest k ≡ true = ap (bit rest) z ∙ set-at in
           let c : bit candidates k ≡ true = is-true (bit candidates k) (s .among k (T-of r)) in
-          let f : met size sets x y k ≡ m = ap (met size sets x y) z ∙ mp in
+          let f : met size sets b k ≡ m = ap (met size sets b) z ∙ mp in
           ap₂ (λ (a : Bool) (d : Bool). (bit candidates k && not a && d) || m) r f
           ∙ ap (λ (a : Bool). (a && false && m) || m) c
           ∙ sym (ap₂ (λ (a : Bool) (d : Bool). bit candidates k && not (a && false) && d) r f ∙ ap (λ (a : Bool). a && true && m) c)
       kept-turn k false q =
-          or-false (bit candidates k && not (bit rest k) && met size sets x y k)
-          ∙ ap (λ (a : Bool). bit candidates k && not a && met size sets x y k) (sym (and-true (bit rest k)))
+          or-false (bit candidates k && not (bit rest k) && met size sets b k)
+          ∙ ap (λ (a : Bool). bit candidates k && not a && met size sets b k) (sym (and-true (bit rest k)))
 
-      kept-now : (k : ℕ) → (bit live k || (eqb k p && m)) ≡ (bit candidates k && not (bit rest′ k) && met size sets x y k)
+      kept-now : (k : ℕ) → (bit live k || (eqb k p && m)) ≡ (bit candidates k && not (bit rest′ k) && met size sets b k)
       kept-now k =
           ap (λ (a : Bool). a || (eqb k p && m)) (s .done .kept k) ∙ kept-turn k (eqb k p) refl
-          ∙ ap (λ (a : Bool). bit candidates k && not a && met size sets x y k) (sym (taken k))
+          ∙ ap (λ (a : Bool). bit candidates k && not a && met size sets b k) (sym (taken k))
 
-    pub step-skip : met size sets x y p ≡ false → Stepping rest′ live next
+    pub step-skip : met size sets b p ≡ false → Stepping rest′ live next
     step-skip mp =
         record {
           fits = step-fits;
@@ -106,7 +106,7 @@ module _ (sets : List (List ℕ)) (before : List ℕ) (size candidates x y : ℕ
     live-bit : (k : ℕ) → bit live′ k ≡ (bit live k || eqb k p)
     live-bit k = ap (λ (m : ℕ). bit (bitOr live m) k) shifted ∙ bit-add live p k
 
-    pub step-keep : met size sets x y p ≡ true → Stepping rest′ live′ (bitOr next (getD before p 0))
+    pub step-keep : met size sets b p ≡ true → Stepping rest′ live′ (bitOr next (getD before p 0))
     step-keep mp =
         record {
           fits = step-fits;
@@ -133,20 +133,11 @@ module _ (sets : List (List ℕ)) (before : List ℕ) (size candidates x y : ℕ
 
 -- ---- the code's test
 
-module _ (sets : List (List ℕ)) (size x y p : ℕ) where
-  pub met-past : size ≤ p → met size sets x y p ≡ false
+module _ (sets : List (List ℕ)) (size b p : ℕ) where
+  pub met-past : size ≤ p → met size sets b p ≡ false
   unfolding met
-  met-past h = ap (λ (a : Bool). a && (in-set (getD sets p []) x || in-set (getD sets p []) y)) (le-ltb p size h)
+  met-past h = ap (λ (a : Bool). a && in-set (getD sets p []) b) (le-ltb p size h)
 
-  pub met-is : p < size → (r t : Bool) → r ≡ (in-set (getD sets p []) x || in-set (getD sets p []) y) → r ≡ t → met size sets x y p ≡ t
+  pub met-is : p < size → (r t : Bool) → r ≡ in-set (getD sets p []) b → r ≡ t → met size sets b p ≡ t
   unfolding met
-  met-is h r t e q = ap (λ (a : Bool). a && (in-set (getD sets p []) x || in-set (getD sets p []) y)) (lt-ltb p size h) ∙ sym e ∙ q
-
-pub either-yes : (set : List ℕ) (x y : ℕ) (r : Bool) → r ≡ in-set set x → r ≡ true → true ≡ (in-set set x || in-set set y)
-either-yes set x y r e q = ap (λ (a : Bool). a || in-set set y) (sym q ∙ e)
-
-pub either-same : (set : List ℕ) (x y : ℕ) (r : Bool) → r ≡ in-set set x → r ≡ false → x ≡ y → false ≡ (in-set set x || in-set set y)
-either-same set x y r e q z = ap₂ (λ (a d : Bool). a || d) (sym q ∙ e) (sym q ∙ e ∙ ap (in-set set) z)
-
-pub either-second : (set : List ℕ) (x y : ℕ) (r t : Bool) → r ≡ in-set set x → r ≡ false → t ≡ in-set set y → t ≡ (in-set set x || in-set set y)
-either-second set x y r t e q z = ap₂ (λ (a d : Bool). a || d) (sym q ∙ e) z
+  met-is h r t e q = ap (λ (a : Bool). a && in-set (getD sets p []) b) (lt-ltb p size h) ∙ sym e ∙ q

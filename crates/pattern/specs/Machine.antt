@@ -1,12 +1,11 @@
 -- A machine of at most 60 positions, and where a part of a text that it takes begins. It knows no edition of patterns.
 use mathlib.Core.Path.{_≡_}
-use mathlib.Core.Bool.{Bool, not, _&&_, _||_}
+use mathlib.Core.Bool.{Bool, not, _&&_}
 use mathlib.Core.List.{List, [], _∷_}
 use Prim.Native.Nat.{ℕ, _+_, _<_, _≤_}
 use lib.Dec.{T, eqb, ltb}
 use lib.ListN.{getD, drop, length}
 use Rattle.octets.specs.Bits.{bit}
-use Rattle.octets.specs.Bytes.{lower, upper}
 use Rattle.octets.specs.Lists.{pick, empty}
 use Rattle.pattern.specs.Sets.{in-set}
 use Rattle.pattern.specs.declared.matcher.Shape.{Shape}
@@ -53,31 +52,24 @@ last-mask h e = pick e (h .ends) (h .stops)
 abbrev pub null-at : Shape → Bool → Bool → Bool
 null-at h a e = pick a (pick e (h .whole) (h .head)) (pick e (h .tail) (h .middle))
 
--- a byte's forms on a name (fold), and the byte itself elsewhere
-abbrev pub lower-as : Bool → ℕ → ℕ
-lower-as fold b = pick fold (lower b) b
-
-abbrev pub upper-as : Bool → ℕ → ℕ
-upper-as fold b = pick fold (upper b) b
-
--- the position p is one, and its set has one of the two bytes
-unfoldable pub met : ℕ → List (List ℕ) → ℕ → ℕ → ℕ → Bool
+-- the position p is one, and its set has the byte b
+unfoldable pub met : ℕ → List (List ℕ) → ℕ → ℕ → Bool
 unfolding in-set
-met size sets x y p = ltb p size && (in-set (getD sets p []) x || in-set (getD sets p []) y)
+met size sets b p = ltb p size && in-set (getD sets p []) b
 
-abbrev pub machine-of : Shape → List (List ℕ) → List ℕ → Bool → Machine
-machine-of h sets before fold = record {
+abbrev pub machine-of : Shape → List (List ℕ) → List ℕ → Machine
+machine-of h sets before = record {
   first = λ a p. bit (first-mask h a) p;
   last = λ e p. bit (last-mask h e) p;
   follow = λ p q. ltb q (h .size) && bit (getD before q 0) p;
-  meets = λ p b. met (h .size) sets (lower-as fold b) (upper-as fold b) p;
+  meets = λ p b. met (h .size) sets b p;
   null = null-at h;
 }
 
 -- ---- one byte
 
 -- Of the candidates that are no longer left: `live` are those that meet the byte, `next` those that may stand before a live one.
-pub record Stepped (sets : List (List ℕ)) (before : List ℕ) (size candidates x y left live next : ℕ) : Type 0 where
-  pub kept : (k : ℕ) → bit live k ≡ (bit candidates k && not (bit left k) && met size sets x y k)
+pub record Stepped (sets : List (List ℕ)) (before : List ℕ) (size candidates b left live next : ℕ) : Type 0 where
+  pub kept : (k : ℕ) → bit live k ≡ (bit candidates k && not (bit left k) && met size sets b k)
   pub back : (p : ℕ) → T (bit next p) → (q : ℕ) × T (bit live q) × T (bit (getD before q 0) p)
   pub forth : (p q : ℕ) → T (bit live q) → T (bit (getD before q 0) p) → T (bit next p)

@@ -9,7 +9,8 @@ use lib.ListN.{length, drop}
 use Rattle.octets.specs.Lists.{pick}
 use Rattle.pattern.specs.Pattern.{Atom, Elem, once, star, Pattern}
 use Rattle.pattern.specs.Reading.{read-pattern}
-use Rattle.pattern.specs.Drawn.{drawn}
+use Rattle.pattern.specs.Answers.{meet-as}
+use Rattle.pattern.specs.Sets.{words}
 use Rattle.pattern.specs.declared.edition1.Filled.{Filled}
 use Rattle.pattern.specs.declared.edition1.Marks.{Marks}
 use Rattle.pattern.specs.declared.matcher.Shape.{Shape}
@@ -48,10 +49,15 @@ marks m (e ∷ es) = marks (mark m (starred e)) es
 
 -- ---- the lent places
 
+-- the set of the bytes that an atom meets; fold: on a name
+unfoldable pub set-as : Bool → Atom → List ℕ
+unfolding words
+set-as fold a = words (meet-as fold a)
+
 -- a set for each element
-abbrev pub sets-of : List Elem → List (List ℕ)
-sets-of [] = []
-sets-of (e ∷ es) = drawn true (atom-of e) ∷ sets-of es
+abbrev pub sets-of : Bool → List Elem → List (List ℕ)
+sets-of fold [] = []
+sets-of fold (e ∷ es) = set-as fold (atom-of e) ∷ sets-of fold es
 
 -- and what may come right before it
 abbrev pub befores : Marks → List Elem → List ℕ
@@ -81,9 +87,9 @@ shape-of none = no-shape
 shape-of (some p) = shape-by (marks no-marks (p .elems)) (p .at-start) (p .at-end)
 
 -- places behind the pattern's elements, and all places where it is refused, keep what they held
-abbrev pub sets-after : Option Pattern → List (List ℕ) → List (List ℕ)
-sets-after none old = old
-sets-after (some p) old = sets-of (p .elems) ++ drop (length (p .elems)) old
+abbrev pub sets-after : Bool → Option Pattern → List (List ℕ) → List (List ℕ)
+sets-after fold none old = old
+sets-after fold (some p) old = sets-of fold (p .elems) ++ drop (length (p .elems)) old
 
 abbrev pub befores-after : Option Pattern → List ℕ → List ℕ
 befores-after none old = old
@@ -98,19 +104,23 @@ abbrev pub ends-anchored : Option Pattern → Bool
 ends-anchored none = false
 ends-anchored (some p) = p .at-end
 
-pub record FilledFor (o : Option Pattern) (r : Filled) (old-sets sets : List (List ℕ)) (old-before before : List ℕ) : Type 0 where
+pub record FilledFor (fold : Bool) (o : Option Pattern) (r : Filled) (old-sets sets : List (List ℕ)) (old-before before : List ℕ) : Type 0 where
   pub all-marks : r .marks ≡ marks-of o
   pub anchored : r .right ≡ ends-anchored o
-  pub lent-sets : sets ≡ sets-after o old-sets
+  pub lent-sets : sets ≡ sets-after fold o old-sets
   pub lent-before : before ≡ befores-after o old-before
+  pub room-sets : length sets ≡ 60
+  pub room-before : length before ≡ 60
 
 -- what `prepare` leaves, and what `test` needs
-pub record Prepared (p : List ℕ) (h : Shape) (old-sets sets : List (List ℕ)) (old-before before : List ℕ) : Type 0 where
+pub record Prepared (fold : Bool) (p : List ℕ) (h : Shape) (old-sets sets : List (List ℕ)) (old-before before : List ℕ) : Type 0 where
   pub shape : h ≡ shape-of (read-pattern p)
-  pub lent-sets : sets ≡ sets-after (read-pattern p) old-sets
+  pub lent-sets : sets ≡ sets-after fold (read-pattern p) old-sets
   pub lent-before : before ≡ befores-after (read-pattern p) old-before
+  pub room-sets : length sets ≡ 60
+  pub room-before : length before ≡ 60
 
-pub record Ready (p : List ℕ) (h : Shape) (sets : List (List ℕ)) (before : List ℕ) : Type 0 where
+pub record Ready (fold : Bool) (p : List ℕ) (h : Shape) (sets : List (List ℕ)) (before : List ℕ) : Type 0 where
   pub old-sets : List (List ℕ)
   pub old-before : List ℕ
-  pub prepared : Prepared p h old-sets sets old-before before
+  pub prepared : Prepared fold p h old-sets sets old-before before

@@ -6,7 +6,9 @@ ghost use lib.Bits.{bitOr};
 ghost use lib.ListN.{length};
 ghost use Rattle.octets.specs.Lists.{pick};
 ghost use Rattle.pattern.specs.Answers.{is-pattern};
-ghost use Rattle.pattern.specs.Prepared.{mark as marked, before-at, shape-by, no-shape, FilledFor};
+ghost use Rattle.pattern.specs.Drawn.{drawn};
+ghost use Rattle.pattern.specs.Pattern.{Atom};
+ghost use Rattle.pattern.specs.Prepared.{mark as marked, before-at, set-as, shape-by, no-shape, FilledFor};
 ghost use Rattle.pattern.specs.Reading.{read-pattern};
 use crate::matcher::Shape;
 use crate::reader::atom_at;
@@ -14,6 +16,7 @@ use crate::reader::behind;
 use crate::reader::is_anchor;
 use crate::reader::peek_at;
 use crate::reader::start_at;
+use crate::sets::folded;
 
 // Of the elements before the position `at`: those that may come right before it, those that may come first, and whether all may
 // be left out.
@@ -83,10 +86,25 @@ pub struct Filled {
     pub right: bool,
 }
 
+// The set of an atom that was read, on a name (fold) or as written.
+fn set_as(fold: bool, set: [u64; 4]) -> [u64; 4]
+    ensures { λ r. ⌜ ((a : Atom) → set ≡ drawn true a → r ≡ set-as fold a) ⌝ }
+{
+    if fold {
+        return folded(set);
+    }
+    set
+}
+
 // The elements' sets and masks, written to the lent places one after the other.
-pub(crate) fn fill(s: &[u8], sets: &mut [[u64; 4]; 60], before: &mut [u64; 60]) -> Filled
+pub(crate) fn fill(
+    s: &[u8],
+    fold: bool,
+    sets: &mut [[u64; 4]; 60],
+    before: &mut [u64; 60],
+) -> Filled
     requires { ⌜ (is-pattern (now s) ≡ true) × (length (now sets) ≡ 60) × (length (now before) ≡ 60) ⌝ }
-    ensures { λ r. ⌜ FilledFor (read-pattern (now (s .entry))) r (now (sets .entry)) (now (sets .exit)) (now (before .entry)) (now (before .exit)) ⌝ }
+    ensures { λ r. ⌜ FilledFor fold (read-pattern (now (s .entry))) r (now (sets .entry)) (now (sets .exit)) (now (before .entry)) (now (before .exit)) ⌝ }
 {
     let mut i = start_at(s);
     let mut first = true;
@@ -106,7 +124,8 @@ pub(crate) fn fill(s: &[u8], sets: &mut [[u64; 4]; 60], before: &mut [u64; 60]) 
         let a = atom_at(s, i, first, true);
         let repeats = peek_at(s, a.end) == 42;
         let at = m.at;
-        let set = a.set;
+        let read = a.set;
+        let set = set_as(fold, read);
         sets[at] = set;
         before[at] = before_at(m, repeats);
         m = mark(m, repeats);

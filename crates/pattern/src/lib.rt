@@ -6,14 +6,14 @@ ghost use Rattle.pattern.specs.Prepared.{Prepared, Ready};
 
 mod draw;
 mod edition1;
-pub mod matcher;
+mod matcher;
 mod reader;
 mod sets;
 
 use crate::edition1::fill;
 use crate::edition1::no_shape;
 use crate::edition1::shape_by;
-use crate::matcher::Shape;
+pub use crate::matcher::Shape;
 use crate::matcher::leftmost;
 use crate::reader::atom_at;
 use crate::reader::behind;
@@ -47,24 +47,24 @@ pub fn is_pattern(s: &[u8]) -> bool
     n <= 60
 }
 
-// Reads a pattern into the lent places, once for many texts. A refused one gives a machine that takes no part, and leaves the
+// Reads a pattern into the lent places, once for many texts; fold: for names. A refused one gives a machine that takes no part, and leaves the
 // lent places as they are.
-pub fn prepare(p: &[u8], sets: &mut [[u64; 4]; 60], before: &mut [u64; 60]) -> Shape
+pub fn prepare(p: &[u8], fold: bool, sets: &mut [[u64; 4]; 60], before: &mut [u64; 60]) -> Shape
     requires { ⌜ (length (now sets) ≡ 60) × (length (now before) ≡ 60) ⌝ }
-    ensures { λ r. ⌜ Ready (now (p .entry)) r (now (sets .exit)) (now (before .exit)) ⌝ }
-    ensures { λ r. ⌜ Prepared (now (p .entry)) r (now (sets .entry)) (now (sets .exit)) (now (before .entry)) (now (before .exit)) ⌝ }
+    ensures { λ r. ⌜ Ready fold (now (p .entry)) r (now (sets .exit)) (now (before .exit)) ⌝ }
+    ensures { λ r. ⌜ Prepared fold (now (p .entry)) r (now (sets .entry)) (now (sets .exit)) (now (before .entry)) (now (before .exit)) ⌝ }
 {
     if !is_pattern(p) {
         return no_shape();
     }
     let left = peek_at(p, 0) == 94;
-    let f = fill(p, sets, before);
+    let f = fill(p, fold, sets, before);
     let m = f.marks;
     shape_by(m, left, f.right)
 }
 
-// The smallest place at which a part of the text that fits begins, or one above the text's length. The pattern p is the one that was
-// prepared; it is named for the promise alone.
+// The smallest place at which a part of the text that fits begins, or one above the text's length. The pattern p and fold are those
+// that were prepared; they are named for the promise alone.
 pub fn first_match(
     h: Shape,
     sets: &[[u64; 4]; 60],
@@ -73,13 +73,13 @@ pub fn first_match(
     fold: bool,
     text: &[u8],
 ) -> usize
-    requires { ⌜ Ready (now p) h (now sets) (now before) ⌝ }
+    requires { ⌜ Ready fold (now p) h (now sets) (now before) ⌝ }
     ensures { λ r. ⌜ r ≡ first-fit fold (now (p .entry)) (now (text .entry)) ⌝ }
 {
-    leftmost(h, sets, before, fold, text)
+    leftmost(h, sets, before, text)
 }
 
-// Whether the prepared pattern matches the text; fold: the text is a name.
+// Whether the prepared pattern matches the text.
 pub fn test(
     h: Shape,
     sets: &[[u64; 4]; 60],
@@ -88,10 +88,10 @@ pub fn test(
     fold: bool,
     text: &[u8],
 ) -> bool
-    requires { ⌜ Ready (now p) h (now sets) (now before) ⌝ }
+    requires { ⌜ Ready fold (now p) h (now sets) (now before) ⌝ }
     ensures { λ r. ⌜ r ≡ meets-text fold (now (p .entry)) (now (text .entry)) ⌝ }
 {
-    leftmost(h, sets, before, fold, text) <= text.len()
+    first_match(h, sets, before, p, fold, text) <= text.len()
 }
 
 pub enum Outcome {
@@ -110,7 +110,7 @@ pub fn matches(p: &[u8], fold: bool, text: &[u8]) -> Outcome
     let none = [0u64; 4];
     let mut sets = [none; 60];
     let mut before = [0u64; 60];
-    let h = prepare(p, &mut sets, &mut before);
+    let h = prepare(p, fold, &mut sets, &mut before);
     if test(h, &sets, &before, p, fold, text) {
         return Outcome::Yes;
     }

@@ -1,13 +1,14 @@
 // The matcher: a machine of at most 60 positions, a bit for each. It knows no edition of patterns.
 ghost use mathlib.Core.Path.{_≡_};
 ghost use mathlib.Core.Bool.{true, not, _||_};
+ghost use mathlib.Core.List.{[]};
 ghost use Prim.Native.Nat.{_+_, _≤_, _<_};
 ghost use lib.Bits.{bitAnd};
 ghost use lib.Dec.{eqb};
+ghost use lib.ListN.{getD};
 ghost use Rattle.octets.specs.Lists.{pick};
-ghost use Rattle.pattern.specs.Machine.{Stepped, Leftmost, first-mask, last-mask, null-at, lower-as, upper-as, machine-of};
+ghost use Rattle.pattern.specs.Machine.{Stepped, Leftmost, first-mask, last-mask, null-at, machine-of};
 ghost use Rattle.pattern.specs.Sets.{in-set};
-use crate::sets::has;
 
 // Which positions may begin a part, at the text's start or elsewhere; which may end one, at the text's end or elsewhere; and
 // whether the empty part fits: as the whole text, at its start, at its end, or between.
@@ -29,29 +30,20 @@ pub struct Front {
     pub next: u64,
 }
 
-fn has_either(set: [u64; 4], x: u8, y: u8) -> bool
-    ensures { λ r. ⌜ r ≡ (in-set set x || in-set set y) ⌝ }
+// Whether the set of position p has the byte b.
+fn has(sets: &[[u64; 4]; 60], p: usize, b: u8) -> bool
+    requires { ⌜ p < 60 ⌝ }
+    ensures { λ r. ⌜ r ≡ in-set (getD (now (sets .entry)) p []) b ⌝ }
 {
-    if has(set, x) {
-        return true;
-    }
-    if x == y {
-        return false;
-    }
-    has(set, y)
+    let w = (b / 64) as usize;
+    let k = b % 64;
+    (sets[p][w] >> k) & 1 == 1
 }
 
-// Of the candidates, the positions that meet a byte whose two forms are x and y. Only the candidates are looked at.
-fn step(
-    sets: &[[u64; 4]; 60],
-    before: &[u64; 60],
-    size: usize,
-    candidates: u64,
-    x: u8,
-    y: u8,
-) -> Front
+// Of the candidates, the positions that meet the byte b. Only the candidates are looked at.
+fn step(sets: &[[u64; 4]; 60], before: &[u64; 60], size: usize, candidates: u64, b: u8) -> Front
     requires { ⌜ size ≤ 60 ⌝ }
-    ensures { λ r. ⌜ Stepped (now (sets .entry)) (now (before .entry)) size candidates x y 0 (r .live) (r .next) ⌝ }
+    ensures { λ r. ⌜ Stepped (now (sets .entry)) (now (before .entry)) size candidates b 0 (r .live) (r .next) ⌝ }
 {
     let mut left = candidates;
     let mut live: u64 = 0;
@@ -60,31 +52,13 @@ fn step(
         let p = u64::trailing_zeros(left) as usize;
         left = left ^ 1 << p;
         if p < size {
-            if has_either(sets[p], x, y) {
+            if has(sets, p, b) {
                 live = live | 1 << p;
                 next = next | before[p];
             }
         }
     }
     Front { live, next }
-}
-
-fn lower_form(fold: bool, b: u8) -> u8
-    ensures { λ r. ⌜ r ≡ lower-as fold b ⌝ }
-{
-    if fold {
-        return octets::lower_of(b);
-    }
-    b
-}
-
-fn upper_form(fold: bool, b: u8) -> u8
-    ensures { λ r. ⌜ r ≡ upper-as fold b ⌝ }
-{
-    if fold {
-        return octets::upper_of(b);
-    }
-    b
 }
 
 fn last_of(h: Shape, end: bool) -> u64
@@ -144,15 +118,9 @@ fn end_place(h: Shape, n: usize) -> usize
 
 // The smallest place at which a part of the text fits, or one above its length: a scan from the end, so that what is live before
 // a byte follows from what is live behind it, and the last place found is the smallest.
-pub(crate) fn leftmost(
-    h: Shape,
-    sets: &[[u64; 4]; 60],
-    before: &[u64; 60],
-    fold: bool,
-    text: &[u8],
-) -> usize
+pub(crate) fn leftmost(h: Shape, sets: &[[u64; 4]; 60], before: &[u64; 60], text: &[u8]) -> usize
     requires { ⌜ h .size ≤ 60 ⌝ }
-    ensures { λ r. ⌜ Leftmost (machine-of h (now (sets .entry)) (now (before .entry)) fold) (now (text .entry)) r ⌝ }
+    ensures { λ r. ⌜ Leftmost (machine-of h (now (sets .entry)) (now (before .entry))) (now (text .entry)) r ⌝ }
 {
     let n = text.len();
     let size = h.size;
@@ -162,9 +130,7 @@ pub(crate) fn leftmost(
     while 0 < i {
         let stop = last_of(h, i == n);
         i -= 1;
-        let x = lower_form(fold, text[i]);
-        let y = upper_form(fold, text[i]);
-        let f = step(sets, before, size, next | stop, x, y);
+        let f = step(sets, before, size, next | stop, text[i]);
         next = f.next;
         if begins(h, i == 0, false, f.live) {
             best = i;

@@ -1,13 +1,14 @@
 // The reader: each function answers where what is left begins, and 0 where the pattern is refused.
 ghost use mathlib.Core.Path.{_≡_};
-ghost use mathlib.Core.Bool.{true, false, not, _&&_, _||_};
-ghost use Prim.Native.Nat.{_+_, _<_};
+ghost use mathlib.Core.Bool.{true, false, not, _&&_};
+ghost use mathlib.Core.List.{List};
+ghost use Prim.Native.Nat.{ℕ, _+_, _<_};
 ghost use lib.Dec.{eqb};
 ghost use lib.ListN.{length, getD, drop};
 ghost use Rattle.octets.specs.Lists.{text, pick, some-of, peek};
 ghost use Rattle.pattern.specs.Pattern.{list};
 ghost use Rattle.pattern.specs.Places.{map-got, items-of, ItemAt, PieceAt};
-ghost use Rattle.pattern.specs.Reading.{range, item, bracket, escaped, atom};
+ghost use Rattle.pattern.specs.Reading.{class-opens, begins-item, range, item, bracket, escaped, atom};
 ghost use Rattle.pattern.specs.Drawn.{drawn};
 use crate::draw::any;
 use crate::draw::closed;
@@ -39,7 +40,7 @@ pub(crate) fn peek_at(s: &[u8], i: usize) -> u16
 
 // "`[.` `[=` `[:` inside a list"
 fn opens_class(b: u8, next: u16) -> bool
-    ensures { λ r. ⌜ r ≡ (eqb b 91 && some-of (eqb next) (text ".=:")) ⌝ }
+    ensures { λ r. ⌜ ((s : List ℕ) → next ≡ peek s → r ≡ class-opens b s) ⌝ }
 {
     (b == 91) & ((next == 46) | (next == 61) | (next == 58))
 }
@@ -63,7 +64,7 @@ fn no_piece() -> Piece
 
 // A byte that may begin an item: "`-` when first or last", "a first `-` may begin a range"; `[.` `[=` `[:` may not.
 fn may_begin(first: bool, b: u8, next: u16) -> bool
-    ensures { λ r. ⌜ r ≡ ((not (eqb b 45) || first || eqb next 93) && not (eqb b 91 && some-of (eqb next) (text ".=:"))) ⌝ }
+    ensures { λ r. ⌜ ((s : List ℕ) → next ≡ peek s → r ≡ (begins-item first b s && not (class-opens b s))) ⌝ }
 {
     ((b != 45) | first | (next == 93)) & !opens_class(b, next)
 }

@@ -3,20 +3,14 @@ ghost use mathlib.Core.Path.{_≡_};
 ghost use mathlib.Core.Bool.{Bool, not, _&&_, _||_};
 ghost use Prim.Native.Nat.{ℕ, _≤_};
 ghost use lib.Dec.{eqb};
-ghost use Rattle.octets.specs.Bytes.{within};
-ghost use Rattle.pattern.specs.Sets.{in-set, words};
+ghost use Rattle.octets.specs.Bytes.{within, lower, upper};
+ghost use Rattle.pattern.specs.Sets.{words};
 
 // All bits of a word.
 const ALL: u64 = 18446744073709551615;
 
-// Whether the byte b is in the set.
-pub(crate) fn has(set: [u64; 4], b: u8) -> bool
-    ensures { λ r. ⌜ r ≡ in-set set b ⌝ }
-{
-    let w = (b / 64) as usize;
-    let k = b % 64;
-    (set[w] >> k) & 1 == 1
-}
+// The lowest 26 bits, one for each letter.
+const LETTERS: u64 = 67108863;
 
 // The set with one byte more.
 pub(crate) fn add_byte(set: [u64; 4], c: u8) -> [u64; 4]
@@ -50,4 +44,12 @@ pub(crate) fn others(set: [u64; 4]) -> [u64; 4]
     ensures { λ r. ⌜ ((f : ℕ → Bool) → set ≡ words f → r ≡ words (λ b. not (eqb b 0) && not (f b))) ⌝ }
 {
     [(set[0] | 1) ^ ALL, set[1] ^ ALL, set[2] ^ ALL, set[3] ^ ALL]
+}
+
+// The set on a name: "an element meets a byte if it meets its lower or its upper form". `A` is bit 1 of the second word, `a` bit 33.
+pub(crate) fn folded(set: [u64; 4]) -> [u64; 4]
+    ensures { λ r. ⌜ ((f : ℕ → Bool) → set ≡ words f → r ≡ words (λ b. f (lower b) || f (upper b))) ⌝ }
+{
+    let found = ((set[1] >> 1) | (set[1] >> 33)) & LETTERS;
+    [set[0], set[1] | found << 1 | found << 33, set[2], set[3]]
 }

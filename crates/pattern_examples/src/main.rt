@@ -74,9 +74,9 @@ fn read_once() {
     let mut sets = [none; 60];
     let mut before = [0u64; 60];
     let p = b"J[oa]*e$";
-    let h = pattern::prepare(p, &mut sets, &mut before);
-    yes(pattern::test(h, &sets, &before, p, false, b"Joe"));
-    yes(pattern::test(h, &sets, &before, p, false, b"Joel"));
+    let h = pattern::prepare(p, true, &mut sets, &mut before);
+    yes(pattern::test(h, &sets, &before, p, true, b"Joe"));
+    yes(pattern::test(h, &sets, &before, p, true, b"Joel"));
     yes(pattern::test(h, &sets, &before, p, true, b"a jaoE"));
     yes(pattern::first_match(h, &sets, &before, p, true, b"a jaoE") == 2);
     end_line();

@@ -12,8 +12,9 @@ no-shape-requires c κs = search needs
 
 returns : tie.Need-returns
 returns c =
-    let q = prepare-refused _ _ _ _ _ (c .before .before .is-pattern .ensures) (c .before .if1 .taken) (c .no-shape .ensures) in
-    (prepared-ready _ _ _ _ _ _ q, q)
+    let pre = c .before .before .before .before .pre in
+    let q = prepare-refused _ _ _ _ _ _ (c .before .before .is-pattern .ensures) (c .before .if1 .taken) (c .no-shape .ensures) (pre .0) (pre .1) in
+    (prepared-ready _ _ _ _ _ _ _ q, q)
 
 peek-at-requires : tie.Need-peek-at-requires
 peek-at-requires c κs = search needs
@@ -27,10 +28,10 @@ shape-by-requires c κs = search needs
 returns-2 : tie.Need-returns-2
 returns-2 c =
     let q =
-    prepare-on _ _ _ _ _ (c .before .before .before .before .before .before .before .is-pattern .ensures) _ _ _ _ (c .before .before .before .before .before .before .if1 .left)
+    prepare-on _ _ _ _ _ _ (c .before .before .before .before .before .before .before .is-pattern .ensures) _ _ _ _ (c .before .before .before .before .before .before .if1 .left)
     (c .before .before .before .before .before .peek-at .ensures) (c .before .before .fill .ensures) (c .shape-by .ensures)
     in
-    (prepared-ready _ _ _ _ _ _ q, q)
+    (prepared-ready _ _ _ _ _ _ _ q, q)
 
 pub prepare-spec : {M : Type 1} → statement M
 prepare-spec =

@@ -1,15 +1,13 @@
-use Rattle.pattern.proofs.Finding.{found-meets}
-use Rattle.pattern.proofs.Filling.{ready-few}
+use borrow.Author.Needs.{needs}
+use Rattle.pattern.proofs.Finding.{place-meets}
 use Rattle.pattern.proofs.test.Statement.{statement}
 use Rattle.pattern.proofs.test.Tie as tie
 
-leftmost-requires : tie.Need-leftmost-requires
-leftmost-requires c κs = ready-few _ _ _ _ (c .before .before .pre)
+first-match-requires : tie.Need-first-match-requires
+first-match-requires c κs = search needs
 
 returns : tie.Need-returns
-returns c =
-    found-meets _ (c .before .before .before .args .text .now) _ (λ i. c .before .shared-slice-known2 .given i .fits) _ _ _ _
-    (c .before .before .before .pre) (c .leftmost .ensures)
+returns c = search place-meets
 
 pub test-spec : {M : Type 1} → statement M
-test-spec = tie.close (tie.spec leftmost-requires returns)
+test-spec = tie.close (tie.spec first-match-requires returns)

@@ -1,16 +1,16 @@
 use borrow.Author.Needs.{needs}
-use Prim.Native.Nat.{_+_, _-_}
 use Rattle.pattern.proofs.Scan.{Scan, scan-end, scan-hit, scan-miss, scan-all}
+use Prim.Native.Nat.{_+_, _-_}
 use mathlib.Core.Path.{_≡_}
 use native.Mathlib.Omega.{arith}
 use Rattle.pattern.proofs.matcher.leftmost.Statement.{statement}
 use Rattle.pattern.proofs.matcher.leftmost.Tie as tie
 
 abbrev Inv-loop : tie.InvT-loop
-Inv-loop h sets before fold text n size best₀ next₀ i₀ best next i = Scan h sets before fold text i next best
+Inv-loop h sets before text n size best₀ next₀ i₀ best next i = Scan h sets before text i next best
 
 abbrev μ-loop : tie.MeasureT-loop
-μ-loop h sets before fold text n size best₀ next₀ i₀ best next i = i
+μ-loop h sets before text n size best₀ next₀ i₀ best next i = i
 
 end-place-requires : tie.Need-end-place-requires Inv-loop μ-loop
 end-place-requires c κs = search needs
@@ -24,17 +24,8 @@ last-of-requires c κs = search needs
 sub-i : tie.Need-sub-i Inv-loop μ-loop
 sub-i c = search needs
 
-shared-slice-read-lower-form : tie.Need-shared-slice-read-lower-form Inv-loop μ-loop
-shared-slice-read-lower-form c = search needs
-
-lower-form-requires : tie.Need-lower-form-requires Inv-loop μ-loop
-lower-form-requires c κs = search needs
-
-shared-slice-read-upper-form : tie.Need-shared-slice-read-upper-form Inv-loop μ-loop
-shared-slice-read-upper-form c = search needs
-
-upper-form-requires : tie.Need-upper-form-requires Inv-loop μ-loop
-upper-form-requires c κs = search needs
+shared-slice-read-step : tie.Need-shared-slice-read-step Inv-loop μ-loop
+shared-slice-read-step c = search needs
 
 step-requires : tie.Need-step-requires Inv-loop μ-loop
 step-requires c κs = search needs
@@ -47,22 +38,18 @@ loop-less c = search needs
 
 loop-again : tie.Need-loop-again Inv-loop μ-loop
 loop-again c =
-    let l = c .before .before .before .before .before .before .before .before .before .loop in
+    let l = c .before .before .before .before .before .before .loop in
     let d : l .i ≡ l .i - 1 + 1 = omega arith in
-    scan-hit _ _ _ _ _ _ _ _ _ _ _ _ d (l .inv) (c .before .before .before .before .before .before .before .last-of .ensures) _ _
-    (c .before .before .before .before .before .lower-form .ensures) (c .before .before .before .upper-form .ensures)
-    (c .before .before .step .ensures) _ (c .before .begins .ensures) (c .if1 .taken)
+    scan-hit _ _ _ _ _ _ _ _ _ _ _ d (l .inv) (c .before .before .before .before .last-of .ensures) (c .before .before .step .ensures) _ (c .before .begins .ensures) (c .if1 .taken)
 
 loop-less-2 : tie.Need-loop-less-2 Inv-loop μ-loop
 loop-less-2 c = search needs
 
 loop-again-2 : tie.Need-loop-again-2 Inv-loop μ-loop
 loop-again-2 c =
-    let l = c .before .before .before .before .before .before .before .before .before .loop in
+    let l = c .before .before .before .before .before .before .loop in
     let d : l .i ≡ l .i - 1 + 1 = omega arith in
-    scan-miss _ _ _ _ _ _ _ _ _ _ _ _ d (l .inv) (c .before .before .before .before .before .before .before .last-of .ensures) _ _
-    (c .before .before .before .before .before .lower-form .ensures) (c .before .before .before .upper-form .ensures)
-    (c .before .before .step .ensures) _ (c .before .begins .ensures) (c .if1 .left)
+    scan-miss _ _ _ _ _ _ _ _ _ _ _ d (l .inv) (c .before .before .before .before .last-of .ensures) (c .before .before .step .ensures) _ (c .before .begins .ensures) (c .if1 .left)
 
 returns : tie.Need-returns Inv-loop μ-loop
 returns c = search scan-all
@@ -77,10 +64,7 @@ leftmost-spec =
     loop-holds
     last-of-requires
     sub-i
-    shared-slice-read-lower-form
-    lower-form-requires
-    shared-slice-read-upper-form
-    upper-form-requires
+    shared-slice-read-step
     step-requires
     begins-requires
     loop-less

@@ -1,16 +1,16 @@
 use borrow.Author.Needs.{needs}
 use Rattle.pattern.proofs.Stepping.{Stepping, step-none, step-all, step-skip, step-keep, step-less, lowest-lt, met-past, met-is}
-use mathlib.Core.Path.{refl}
 use lib.Count.{trailing-le}
+use mathlib.Core.Path.{refl}
 use native.Mathlib.Omega.{arith}
 use Rattle.pattern.proofs.matcher.step.Statement.{statement}
 use Rattle.pattern.proofs.matcher.step.Tie as tie
 
 abbrev Inv-loop : tie.InvT-loop
-Inv-loop sets before size candidates x y left₀ live₀ next₀ left live next = Stepping sets before size candidates x y left live next
+Inv-loop sets before size candidates b left₀ live₀ next₀ left live next = Stepping sets before size candidates b left live next
 
 abbrev μ-loop : tie.MeasureT-loop
-μ-loop sets before size candidates x y left₀ live₀ next₀ left live next = left
+μ-loop sets before size candidates b left₀ live₀ next₀ left live next = left
 
 loop-holds : tie.Need-loop-holds Inv-loop μ-loop
 loop-holds c = search step-none
@@ -19,19 +19,13 @@ cast-p : tie.Need-cast-p Inv-loop μ-loop
 cast-p c = omega (arith, trailing-le 64 (c .before .loop .left))
 
 shl-left : tie.Need-shl-left Inv-loop μ-loop
-shl-left c = lowest-lt _ _ _ _ _ _ _ _ _ (c .before .loop .inv) (c .loop-test .taken) _ refl
+shl-left c = lowest-lt _ _ _ _ _ _ _ _ (c .before .loop .inv) (c .loop-test .taken) _ refl
 
-mul-has-either : tie.Need-mul-has-either Inv-loop μ-loop
-mul-has-either c = search needs
-
-element-copy-out-has-either : tie.Need-element-copy-out-has-either Inv-loop μ-loop
-element-copy-out-has-either c = search needs
-
-has-either-requires : tie.Need-has-either-requires Inv-loop μ-loop
-has-either-requires c κs = search needs
+has-requires : tie.Need-has-requires Inv-loop μ-loop
+has-requires c κs = search needs
 
 shl-live : tie.Need-shl-live Inv-loop μ-loop
-shl-live c = lowest-lt _ _ _ _ _ _ _ _ _ (c .before .before .before .before .before .loop .inv) (c .before .before .before .before .loop-test .taken) _ refl
+shl-live c = lowest-lt _ _ _ _ _ _ _ _ (c .before .before .before .before .loop .inv) (c .before .before .before .loop-test .taken) _ refl
 
 mul-next : tie.Need-mul-next Inv-loop μ-loop
 mul-next c = search needs
@@ -40,26 +34,26 @@ element-copy-out-next : tie.Need-element-copy-out-next Inv-loop μ-loop
 element-copy-out-next c = search needs
 
 loop-less : tie.Need-loop-less Inv-loop μ-loop
-loop-less c = step-less _ _ _ _ _ _ _ _ _ (c .before .before .before .before .before .before .loop .inv) (c .before .before .before .before .before .loop-test .taken) _ refl
+loop-less c = step-less _ _ _ _ _ _ _ _ (c .before .before .before .before .before .loop .inv) (c .before .before .before .before .loop-test .taken) _ refl
 
 loop-again : tie.Need-loop-again Inv-loop μ-loop
 loop-again c =
-    step-keep _ _ _ _ _ _ _ _ _ (c .before .before .before .before .before .before .loop .inv) (c .before .before .before .before .before .loop-test .taken) _ refl
-    (met-is _ _ _ _ _ (c .before .before .before .before .if1 .taken) _ _ (c .before .before .has-either .ensures) (c .before .if2 .taken))
+    step-keep _ _ _ _ _ _ _ _ (c .before .before .before .before .before .loop .inv) (c .before .before .before .before .loop-test .taken) _ refl
+    (met-is _ _ _ _ (c .before .before .before .if1 .taken) _ _ (c .before .before .has .ensures) (c .before .if2 .taken))
 
 loop-less-2 : tie.Need-loop-less-2 Inv-loop μ-loop
-loop-less-2 c = step-less _ _ _ _ _ _ _ _ _ (c .before .before .before .before .before .loop .inv) (c .before .before .before .before .loop-test .taken) _ refl
+loop-less-2 c = step-less _ _ _ _ _ _ _ _ (c .before .before .before .before .loop .inv) (c .before .before .before .loop-test .taken) _ refl
 
 loop-again-2 : tie.Need-loop-again-2 Inv-loop μ-loop
 loop-again-2 c =
-    step-skip _ _ _ _ _ _ _ _ _ (c .before .before .before .before .before .loop .inv) (c .before .before .before .before .loop-test .taken) _ refl
-    (met-is _ _ _ _ _ (c .before .before .before .if1 .taken) _ _ (c .before .has-either .ensures) (c .if2 .left))
+    step-skip _ _ _ _ _ _ _ _ (c .before .before .before .before .loop .inv) (c .before .before .before .loop-test .taken) _ refl
+    (met-is _ _ _ _ (c .before .before .if1 .taken) _ _ (c .before .has .ensures) (c .if2 .left))
 
 loop-less-3 : tie.Need-loop-less-3 Inv-loop μ-loop
-loop-less-3 c = step-less _ _ _ _ _ _ _ _ _ (c .before .before .loop .inv) (c .before .loop-test .taken) _ refl
+loop-less-3 c = step-less _ _ _ _ _ _ _ _ (c .before .before .loop .inv) (c .before .loop-test .taken) _ refl
 
 loop-again-3 : tie.Need-loop-again-3 Inv-loop μ-loop
-loop-again-3 c = step-skip _ _ _ _ _ _ _ _ _ (c .before .before .loop .inv) (c .before .loop-test .taken) _ refl (met-past _ _ _ _ _ (c .if1 .left))
+loop-again-3 c = step-skip _ _ _ _ _ _ _ _ (c .before .before .loop .inv) (c .before .loop-test .taken) _ refl (met-past _ _ _ _ (c .if1 .left))
 
 returns : tie.Need-returns Inv-loop μ-loop
 returns c = search step-all
@@ -73,9 +67,7 @@ step-spec =
     loop-holds
     cast-p
     shl-left
-    mul-has-either
-    element-copy-out-has-either
-    has-either-requires
+    has-requires
     shl-live
     mul-next
     element-copy-out-next

@@ -1,6 +1,8 @@
 use borrow.Author.Needs.{needs}
+use Rattle.pattern.proofs.Choosing.{picks-first, picks-second}
+use borrow.Author.Tests.{eq-eqb, ne-eqb}
+use mathlib.Core.Path.{refl, sym, _∙_}
 use Rattle.pattern.proofs.Elements.{star-inside}
-use Rattle.pattern.proofs.Places.{peek-yes, peek-no}
 use lib.ListN.{length}
 use Prim.Native.Nat.{_<_}
 use native.Mathlib.Omega.{arith}
@@ -17,10 +19,10 @@ add-result c =
     omega arith
 
 returns : tie.Need-returns
-returns c = search peek-yes
+returns c = picks-first _ _ _ _ (eq-eqb _ _ (sym (c .before .peek-at .ensures) ∙ c .if1 .taken)) refl
 
 returns-2 : tie.Need-returns-2
-returns-2 c = search peek-no
+returns-2 c = picks-second _ _ _ _ (ne-eqb _ _ (λ z. c .if1 .left (c .before .peek-at .ensures ∙ z))) refl
 
 pub behind-spec : {M : Type 1} → statement M
 behind-spec = tie.close (tie.spec peek-at-requires add-result returns returns-2)
