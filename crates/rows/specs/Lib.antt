@@ -1,2 +1,4 @@
 pub mod Examples
 pub mod Rows
+pub mod Tried
+pub mod Trying

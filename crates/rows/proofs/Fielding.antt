@@ -1,0 +1,90 @@
+-- The loop over the fields.
+use mathlib.Core.Bool.{Bool, true, false, _||_}
+use mathlib.Core.Path.{_≡_, ap}
+use mathlib.Core.List.{List}
+use Prim.Native.Nat.{ℕ, _+_, _≤_, _<_}
+use native.Mathlib.Omega.{arith}
+use lib.ListN.{length, drop, drop-of-length-le}
+use Rattle.request.specs.Places.{head-of, part, field-parts}
+use Rattle.request.specs.Request.{Field, name-as-matched}
+use Rattle.request.specs.Values.{reduced, values-of}
+use Rattle.request.specs.declared.FieldParts.{FieldParts}
+use Rattle.request.proofs.Indexing.{FieldSays}
+use Rattle.request.proofs.Parts.{length-part}
+use Rattle.rows.specs.Tried.{request-of, Placed}
+use Rattle.rows.specs.Trying.{item-row, field-row, all-rows}
+use Rattle.rows.specs.declared.Places.{Places}
+use Rattle.rows.specs.declared.Verdict.{Verdict}
+use Rattle.rows.proofs.Items.{fields-le}
+use Rattle.rows.proofs.Requests.{request-of-small, fields-many, field-said, short, body-inside}
+use Rattle.rows.proofs.Sweep.{Swept, swept-first, swept-next, swept-end}
+
+-- the fields before i are tried
+pub record Fielding (h : List ℕ) (with : Bool) (c s : List ℕ) (i : ℕ) (fits : Bool) (trials : ℕ) : Type 0 where
+  pub sweep : Swept (λ f. field-row h with c f .fits) (λ f. field-row h with c f .trials) (drop i (request-of s .fields)) fits trials
+      (all-rows (field-row h with c) (request-of s .fields))
+
+module _ (h : List ℕ) (with : Bool) (c s : List ℕ) where
+  pub fielding-first : Fielding h with c s 0 false 0
+  fielding-first = record { sweep = swept-first (λ f. field-row h with c f .fits) (λ f. field-row h with c f .trials) (request-of s .fields) }
+
+  pub fielding-few : (i : ℕ) (fits : Bool) (trials : ℕ) → Fielding h with c s i fits trials → trials ≤ 262143
+  fielding-few i fits trials w =
+      omega (arith, w .sweep .tried, fields-le h with c (request-of s .fields), request-of-small s .fields-le)
+
+module _ (s starts colons : List ℕ) (p : Places) (k : Placed s starts colons p) where
+  pub fielding-end : (h : List ℕ) (with : Bool) (c : List ℕ) (i : ℕ) (fits : Bool) (trials : ℕ) → Fielding h with c s i fits trials → p .fields ≤ i
+      → _≡_ {A = Verdict} (record { fits = fits; trials = trials }) (all-rows (field-row h with c) (request-of s .fields))
+  fielding-end h with c i fits trials w past =
+      let all : length (request-of s .fields) ≤ i = omega (arith, fields-many s starts colons p k) in
+      swept-end (λ f. field-row h with c f .fits) (λ f. field-row h with c f .trials) (drop i (request-of s .fields)) fits trials
+      (all-rows (field-row h with c) (request-of s .fields)) (w .sweep) (drop-of-length-le (request-of s .fields) all)
+
+  module _ (i : ℕ) (more : i < p .fields) (f : FieldParts) (ef : f ≡ field-parts (head-of s) i) where
+    said : FieldSays s (request-of s) (p .head) i f
+    said = field-said s starts colons p k i more f ef
+
+    inside : f .end ≤ length s
+    inside = omega (arith, said .inside, body-inside s starts colons p k)
+
+    pub name-order : f .name ≤ f .stop
+    name-order = omega (arith, said .name-order)
+
+    pub name-inside : f .stop ≤ length s
+    name-inside = omega (arith, said .colon-after, said .value-order, inside)
+
+    pub value-order : f .value ≤ f .end
+    value-order = said .value-order
+
+    pub value-inside : f .end ≤ length s
+    value-inside = inside
+
+    pub name-short : length (part s (f .name) (f .stop)) ≤ 65535
+    name-short = omega (arith, length-part s (f .name) (f .stop) name-order name-inside, name-inside, short s starts colons p k)
+
+    pub value-short : length (part s (f .value) (f .end)) ≤ 65535
+    value-short = omega (arith, length-part s (f .value) (f .end) value-order inside, inside, short s starts colons p k)
+
+    module _ (h : List ℕ) (with : Bool) (c : List ℕ) (fits : Bool) (trials : ℕ) (w : Fielding h with c s i fits trials) (r : Verdict)
+        (er : r ≡ item-row true h with c (name-as-matched (part s (f .name) (f .stop)))
+        (values-of (name-as-matched (part s (f .name) (f .stop))) (reduced (part s (f .value) (f .end))))) where
+      abbrev this : Field
+      this = record {
+        name = name-as-matched (part s (f .name) (f .stop));
+        values = values-of (name-as-matched (part s (f .name) (f .stop))) (reduced (part s (f .value) (f .end)));
+      }
+
+      row-is : r ≡ field-row h with c this
+      unfolding field-row
+      row-is = er
+
+      pub fielding-next : Fielding h with c s (i + 1) (fits || r .fits) (trials + r .trials)
+      fielding-next = record {
+        sweep =
+            swept-next (λ f. field-row h with c f .fits) (λ f. field-row h with c f .trials) (drop i (request-of s .fields)) fits trials
+            (all-rows (field-row h with c) (request-of s .fields)) (w .sweep) this (drop (i + 1) (request-of s .fields)) (r .fits) (r .trials) (said .list)
+            (ap (λ (u : Verdict). u .fits) row-is) (ap (λ (u : Verdict). u .trials) row-is);
+      }
+
+      pub fielding-fit : trials + r .trials < 4294967296
+      fielding-fit = omega (arith, fielding-few h with c s (i + 1) (fits || r .fits) (trials + r .trials) fielding-next)

@@ -1,0 +1,112 @@
+-- A field or a line, by its name and its values; and what the lists of them come to.
+use mathlib.Core.Bool.{Bool, true, false, not}
+use mathlib.Core.Path.{_≡_, refl, sym, ap, ap₂, _∙_}
+use mathlib.Core.List.{List, [], _∷_}
+use Prim.Native.Nat.{ℕ, _+_, _-_, _*_, _≤_}
+use native.Mathlib.Nat.{sub-zero, le-refl}
+use native.Mathlib.Omega.{arith}
+use lib.ListN.{length, take, drop, length-append}
+use lib.Seq.{take-at}
+use borrow.Author.Tests.{not-true, not-false}
+use Rattle.octets.specs.Lists.{pick, total}
+use Rattle.octets.proofs.Kept.{total-mono, total-const}
+use Rattle.pattern.specs.Answers.{meets-text}
+use Rattle.request.specs.Body.{Line}
+use Rattle.request.specs.Places.{over}
+use Rattle.request.specs.Request.{Field, name-as-matched}
+use Rattle.request.specs.Values.{reduced, values-of}
+use Rattle.rows.specs.Trying.{values-row, named-row, item-row, field-row, line-row}
+use Rattle.rows.specs.declared.Verdict.{Verdict}
+use Rattle.rows.proofs.Sweep.{or-none}
+
+-- ---- one item
+
+module _ (fold : Bool) (h : List ℕ) (with : Bool) (c name : List ℕ) (vs : List (List ℕ)) (m : Bool) (em : m ≡ meets-text fold h name) where
+  item-by : (a b : Bool) → m ≡ a → with ≡ b → named-row a b (values-row c vs) ≡ item-row fold h with c name vs
+  unfolding item-row
+  item-by a b ea eb = ap₂ (λ (x y : Bool). named-row x y (values-row c vs)) (sym ea ∙ em) (sym eb)
+
+  none-tried : (w : Bool) → 1 + pick w 0 0 ≡ 1
+  none-tried true = refl
+  none-tried false = refl
+
+  pub item-no : not m ≡ true → _≡_ {A = Verdict} (record { fits = false; trials = 1 }) (item-row fold h with c name vs)
+  item-no k = ap (λ (n : ℕ). record { fits = false; trials = n }) (sym (none-tried with)) ∙ item-by false with (not-true m k) refl
+
+  module _ (k : not m ≡ false) where
+    pub item-bare : not with ≡ true → _≡_ {A = Verdict} (record { fits = true; trials = 1 }) (item-row fold h with c name vs)
+    item-bare w = item-by true false (not-false m k) (not-true with w)
+
+    pub item-with : not with ≡ false → (v : Verdict) → v ≡ values-row c vs
+        → _≡_ {A = Verdict} (record { fits = v .fits; trials = 1 + v .trials }) (item-row fold h with c name vs)
+    item-with w v ev = ap (λ (u : Verdict). record { fits = u .fits; trials = 1 + u .trials }) ev ∙ item-by true true (not-false m k) (not-false with w)
+
+-- a line has one value
+module _ (h : List ℕ) (with : Bool) (c name value : List ℕ) (m : Bool) (em : m ≡ meets-text false h name) (k : not m ≡ false) where
+  pub item-one : not with ≡ false → (v : Bool) → v ≡ meets-text false c value
+      → _≡_ {A = Verdict} (record { fits = v; trials = 2 }) (item-row false h with c name (value ∷ []))
+  unfolding values-row
+  item-one w v ev =
+      item-with false h with c name (value ∷ []) m em k w (record { fits = v; trials = 1 })
+      (ap (λ (b : Bool). record { fits = b; trials = 1 }) (ev ∙ sym (or-none (meets-text false c value))))
+
+-- ---- the name of a field, as it is matched, in its room
+
+-- it fits a room of 65,535 bytes
+pub matched-fits : (written room : List ℕ) → length written ≤ 65535 → 65535 ≤ length room → length (name-as-matched written) ≤ length room
+matched-fits written room h k = omega arith
+
+module _ (written before room : List ℕ) (n : ℕ) (en : n ≡ length (name-as-matched written)) (er : room ≡ over (name-as-matched written) before) where
+  pub name-inside : n ≤ length room
+  name-inside = omega (arith, en, ap length er, length-append (name-as-matched written) (drop (length (name-as-matched written)) before))
+
+  name-there : take (n - 0) room ≡ name-as-matched written
+  name-there =
+      ap (take (n - 0)) er ∙ ap (λ (k : ℕ). take k (over (name-as-matched written) before)) (sub-zero n)
+      ∙ take-at (name-as-matched written) (drop (length (name-as-matched written)) before) n (sym en)
+
+  module _ (h : List ℕ) (with : Bool) (c raw : List ℕ) (m : Bool) (em : m ≡ meets-text true h (take (n - 0) room)) where
+    abbrev there : Verdict
+    there = item-row true h with c (name-as-matched written) (values-of (name-as-matched written) (reduced raw))
+
+    moved : m ≡ meets-text true h (name-as-matched written)
+    moved = em ∙ ap (meets-text true h) name-there
+
+    pub field-no : not m ≡ true → _≡_ {A = Verdict} (record { fits = false; trials = 1 }) there
+    field-no k = item-no true h with c (name-as-matched written) (values-of (name-as-matched written) (reduced raw)) m moved k
+
+    pub field-bare : not m ≡ false → not with ≡ true → _≡_ {A = Verdict} (record { fits = true; trials = 1 }) there
+    field-bare k w = item-bare true h with c (name-as-matched written) (values-of (name-as-matched written) (reduced raw)) m moved k w
+
+    pub field-with : not m ≡ false → not with ≡ false → (v : Verdict) → v ≡ values-row c (values-of (take (n - 0) room) (reduced raw))
+        → _≡_ {A = Verdict} (record { fits = v .fits; trials = 1 + v .trials }) there
+    field-with k w v ev =
+        item-with true h with c (name-as-matched written) (values-of (name-as-matched written) (reduced raw)) m moved k w v
+        (ev ∙ ap (λ (l : List ℕ). values-row c (values-of l (reduced raw))) name-there)
+
+-- ---- how many trials
+
+item-le : (fold : Bool) (h : List ℕ) (with : Bool) (c name : List ℕ) (vs : List (List ℕ)) → item-row fold h with c name vs .trials ≤ 1 + length vs
+unfolding item-row values-row
+item-le fold h with c name vs = go with (meets-text fold h name)
+  where
+    go : (w m : Bool) → 1 + pick w (pick m (length vs) 0) 0 ≤ 1 + length vs
+    go true true = le-refl (1 + length vs)
+    go true false = omega arith
+    go false m = omega arith
+
+module _ (h : List ℕ) (with : Bool) (c : List ℕ) where
+  -- each field takes at most one for its name and one for each of its values
+  pub fields-le : (fs : List Field) → total (λ f. field-row h with c f .trials) fs ≤ total (λ f. 1 + length (f .values)) fs
+  unfolding field-row
+  fields-le fs = total-mono (λ f. field-row h with c f .trials) (λ f. 1 + length (f .values)) (λ f. item-le true h with c (f .name) (f .values)) fs
+
+  -- each line at most two
+  pub lines-le : (ls : List Line) → total (λ l. line-row h with c l .trials) ls ≤ length ls * 2
+  unfolding line-row
+  lines-le ls =
+      omega (
+        arith,
+        total-mono (λ l. line-row h with c l .trials) (λ l. 2) (λ l. item-le false h with c (l .type) (l .value ∷ [])) ls,
+        total-const 2 ls,
+      )

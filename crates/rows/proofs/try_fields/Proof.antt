@@ -1,0 +1,99 @@
+use mathlib.Core.Path.{_≡_}
+use Prim.Native.Nat.{_-_}
+use native.Mathlib.Omega.{arith}
+use lib.ListN.{length}
+use borrow.Author.Needs.{needs}
+use Rattle.rows.proofs.Fielding.{Fielding, fielding-first, fielding-few, fielding-end, name-order, name-inside, value-order, value-inside, name-short, value-short, fielding-next, fielding-fit}
+use Rattle.rows.proofs.Requests.{indexed-at, index-few}
+use Rattle.rows.proofs.try_fields.Statement.{statement}
+use Rattle.rows.proofs.try_fields.Tie as tie
+
+abbrev Inv-loop : tie.InvT-loop
+Inv-loop s starts colons h h-shape h-sets h-before with c c-shape c-sets c-before names₀ room₀ head fields fits₀ trials₀ i₀ names room fits trials i = Fielding h with c s i fits trials × (length names ≡ length names₀) × (length room ≡ length room₀)
+
+abbrev μ-loop : tie.MeasureT-loop
+μ-loop s starts colons h h-shape h-sets h-before with c c-shape c-sets c-before names₀ room₀ head fields fits₀ trials₀ i₀ names room fits trials i = fields - i
+
+loop-holds : tie.Need-loop-holds Inv-loop μ-loop
+loop-holds c = search (needs, fielding-first)
+
+field-at-requires : tie.Need-field-at-requires Inv-loop μ-loop
+field-at-requires c κs = search indexed-at
+
+sub-try-field : tie.Need-sub-try-field Inv-loop μ-loop
+sub-try-field c = search (needs, name-order)
+
+part-try-field-start : tie.Need-part-try-field-start Inv-loop μ-loop
+part-try-field-start c = search (needs, name-order)
+
+part-try-field-end : tie.Need-part-try-field-end Inv-loop μ-loop
+part-try-field-end c = search (needs, name-inside)
+
+sub-try-field-2 : tie.Need-sub-try-field-2 Inv-loop μ-loop
+sub-try-field-2 c = search (needs, value-order)
+
+part-try-field-start-2 : tie.Need-part-try-field-start-2 Inv-loop μ-loop
+part-try-field-start-2 c = search (needs, value-order)
+
+part-try-field-end-2 : tie.Need-part-try-field-end-2 Inv-loop μ-loop
+part-try-field-end-2 c = search (needs, value-inside)
+
+try-field-requires : tie.Need-try-field-requires Inv-loop μ-loop
+try-field-requires c κs = ((search name-short, search value-short), ((search needs, search needs), (search needs, search needs)))
+
+-- The three needs after the call name the facts by their places: so far back `search` does not look.
+add-trials : tie.Need-add-trials Inv-loop μ-loop
+add-trials c =
+    let turn = c .before .before .before .before .before .before .before .before .before .before .before in
+    let entry = turn .before .before .before .before .before .before .before .before .before .before in
+    omega (arith, fielding-fit _ _ _ _ (entry .pre .0) _ (turn .before .loop-test .taken) _ (turn .field-at .ensures) _ _ _ _ _ (turn .before .before .loop .inv .0) _ (c .before .before .before .before .before .before .try-field .ensures .0))
+
+add-i : tie.Need-add-i Inv-loop μ-loop
+add-i c =
+    let turn = c .before .before .before .before .before .before .before .before .before .before .before in
+    let entry = turn .before .before .before .before .before .before .before .before .before .before in
+    omega (arith, index-few _ _ _ _ (entry .pre .0) _ (turn .before .loop-test .taken))
+
+loop-less : tie.Need-loop-less Inv-loop μ-loop
+loop-less c = search needs
+
+loop-again : tie.Need-loop-again Inv-loop μ-loop
+loop-again c =
+    let turn = c .before .before .before .before .before .before .before .before .before .before .before in
+    let entry = turn .before .before .before .before .before .before .before .before .before .before in (
+      fielding-next _ _ _ _ (entry .pre .0) _ (turn .before .loop-test .taken) _ (turn .field-at .ensures) _ _ _ _ _ (turn .before .before .loop .inv .0) _ (c .before .before .before .before .before .before .try-field .ensures .0),
+      search needs,
+      search needs,
+    )
+
+same-length : tie.Need-same-length Inv-loop μ-loop
+same-length c = search needs
+
+same-length-2 : tie.Need-same-length-2 Inv-loop μ-loop
+same-length-2 c = search needs
+
+returns : tie.Need-returns Inv-loop μ-loop
+returns c = (search fielding-end, search fielding-few)
+
+pub try-fields-spec : {M : Type 1} → statement M
+try-fields-spec =
+    tie.close
+    (tie.spec
+    Inv-loop
+    μ-loop
+    loop-holds
+    field-at-requires
+    sub-try-field
+    part-try-field-start
+    part-try-field-end
+    sub-try-field-2
+    part-try-field-start-2
+    part-try-field-end-2
+    try-field-requires
+    add-trials
+    add-i
+    loop-less
+    loop-again
+    same-length
+    same-length-2
+    returns)

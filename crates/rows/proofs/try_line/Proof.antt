@@ -1,0 +1,22 @@
+use borrow.Author.Needs.{needs}
+use Rattle.rows.proofs.Items.{item-no, item-bare, item-one}
+use Rattle.rows.proofs.try_line.Statement.{statement}
+use Rattle.rows.proofs.try_line.Tie as tie
+
+test-requires : tie.Need-test-requires
+test-requires c κs = search needs
+
+returns : tie.Need-returns
+returns c = search item-no
+
+returns-2 : tie.Need-returns-2
+returns-2 c = search item-bare
+
+test-requires-2 : tie.Need-test-requires-2
+test-requires-2 c κs = search needs
+
+returns-3 : tie.Need-returns-3
+returns-3 c = search item-one
+
+pub try-line-spec : {M : Type 1} → statement M
+try-line-spec = tie.close (tie.spec test-requires returns returns-2 test-requires-2 returns-3)
