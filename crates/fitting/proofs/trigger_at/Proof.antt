@@ -1,0 +1,37 @@
+use borrow.Author.Needs.{needs}
+use Rattle.fitting.proofs.Spans.{fits-there}
+use Rattle.fitting.proofs.trigger_at.Statement.{statement}
+use Rattle.fitting.proofs.trigger_at.Tie as tie
+
+skip-front-requires : tie.Need-skip-front-requires
+skip-front-requires c κs = search needs
+
+mul-m : tie.Need-mul-m
+mul-m c = search needs
+
+add-m : tie.Need-add-m
+add-m c = search needs
+
+sub-skip-back : tie.Need-sub-skip-back
+sub-skip-back c = search needs
+
+skip-back-requires : tie.Need-skip-back-requires
+skip-back-requires c κs = search needs
+
+trigger-fits-requires : tie.Need-trigger-fits-requires
+trigger-fits-requires c κs = search needs
+
+returns : tie.Need-returns
+returns c = search fits-there
+
+pub trigger-at-spec : {M : Type 1} → statement M
+trigger-at-spec =
+    tie.close
+    (tie.spec
+    skip-front-requires
+    mul-m
+    add-m
+    sub-skip-back
+    skip-back-requires
+    trigger-fits-requires
+    returns)
