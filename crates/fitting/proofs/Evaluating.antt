@@ -1,6 +1,5 @@
 -- The rows of a trigger, marked one after the other, and a criterion.
 use mathlib.Core.Bool.{Bool, true, false, not, _&&_, _||_}
-use mathlib.Core.Option.{Option}
 use mathlib.Core.Path.{_≡_, refl, sym, ap, ap₂, _∙_, subst}
 use Prim.Native.Nat.{ℕ, zero, suc, _+_, _-_, _*_, _%_, _^_, _≤_, _<_}
 use native.Mathlib.Omega.{arith}
@@ -19,7 +18,7 @@ use Rattle.profile.specs.Image.{Member, Criterion, Profile}
 use Rattle.request.specs.Request.{Request}
 use Rattle.rows.specs.Rows.{Given}
 use Rattle.rows.specs.declared.Verdict.{Verdict}
-use Rattle.fitting.specs.Fitting.{by-form, cnf, dnf, has-row, part-fits, memberships, fits-at, trigger-fits, criterion-fits, trials-at, trials-from, criterion-trials}
+use Rattle.fitting.specs.Fitting.{by-form, cnf, dnf, part-fits, memberships, fits-at, trigger-fits, criterion-fits, trials-at, trials-from, criterion-trials}
 use Rattle.fitting.specs.Trigger.{of-rows, marked, fits-by}
 use Rattle.fitting.specs.Rowwise.{trigger-of, criterion-of, trials-of, tried-of, TriedRow, TriedRows, Considered}
 use Rattle.fitting.specs.declared.Marks.{Marks}
@@ -44,7 +43,7 @@ module _ (f g : Member → Bool) (l : List Member) (h : (m : Member) → List·M
   dnf-mem = some-mem (λ m. every (λ n. not (eqb (n .group) (m .group)) || f n) l) (λ m. every (λ n. not (eqb (n .group) (m .group)) || g n) l) l
       (λ m d. every-mem (λ n. not (eqb (n .group) (m .group)) || f n) (λ n. not (eqb (n .group) (m .group)) || g n) l (λ n e. ap (λ (b : Bool). not (eqb (n .group) (m .group)) || b) (h n e)))
 
-  form-mem : (form : ℕ) → by-form form f l ≡ by-form form g l
+  pub form-mem : (form : ℕ) → by-form form f l ≡ by-form form g l
   form-mem form = ap₂ (λ (a b : Bool). pick (eqb form 0) a (pick (eqb form 1) b true)) dnf-mem cnf-mem
 
 -- the mask says what the rows do

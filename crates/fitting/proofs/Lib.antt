@@ -1,4 +1,5 @@
 pub mod Evaluating
+pub mod Judged
 pub mod Members
 pub mod Ruling
 pub mod Spans

@@ -1,9 +1,8 @@
 -- The loops over memberships, and what they say of a trigger.
 use mathlib.Core.Bool.{Bool, true, false, not, _&&_, _||_}
 use mathlib.Core.Path.{_≡_, refl, sym, ap, ap₂, _∙_, subst}
-use Prim.Native.Nat.{ℕ, zero, suc, _+_, _-_, _*_, _/_, _%_, _^_, _≤_, _<_}
+use Prim.Native.Nat.{ℕ, suc, _+_, _-_, _*_, _/_, _^_, _≤_, _<_}
 use native.Mathlib.Omega.{arith}
-use native.Mathlib.Nat.{not-suc-le-zero}
 use mathlib.Core.List.{List, [], _∷_}
 use lib.Dec.{leb, ltb, eqb}
 use lib.Bits.{bitAnd}
@@ -11,8 +10,8 @@ use borrow.Author.Tests.{lt-leb, le-leb, lt-ltb, le-ltb, eq-eqb, ne-eqb, not-tru
 use Rattle.octets.specs.Lists.{pick, every, some-of, only}
 use Rattle.octets.specs.Bits.{bit}
 use Rattle.octets.proofs.Bits.{low-bit}
-use Rattle.fitting.specs.Fitting.{cnf, dnf, by-form, part-fits}
-use Rattle.profile.specs.Places.{word, spaced, memberAt}
+use Rattle.fitting.specs.Fitting.{cnf, dnf, part-fits}
+use Rattle.profile.specs.Places.{word, memberAt}
 use Rattle.profile.specs.declared.Member as declared
 use Rattle.profile.specs.Image.{Member}
 use Rattle.profile.specs.Decoded.{member-from}

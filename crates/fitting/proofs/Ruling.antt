@@ -1,7 +1,7 @@
 -- Laws for the rows of a table.
 use mathlib.Core.Bool.{Bool, true, false, not}
 use mathlib.Core.Path.{_≡_, subst, sym, ap, _∙_}
-use Prim.Native.Nat.{ℕ, _+_, _*_, _<_, _≤_}
+use Prim.Native.Nat.{ℕ, _+_, _*_, _≤_}
 use native.Mathlib.Omega.{arith}
 use mathlib.Core.List.{List}
 use lib.ListN.{length}
@@ -11,7 +11,7 @@ use Rattle.profile.specs.Places.{rowAt, criterionAt}
 use Rattle.profile.specs.declared.Criterion.{Criterion}
 use Rattle.profile.specs.declared.Row.{Row}
 use Rattle.request.specs.Request.{Request}
-use Rattle.rows.specs.Rows.{Given, row-fits, row-trials}
+use Rattle.rows.specs.Rows.{Given}
 use Rattle.rows.specs.Tried.{row-of, Tried, Matchable}
 use Rattle.rows.specs.declared.Verdict.{Verdict}
 use Rattle.fitting.specs.Fitting.{part-fits}

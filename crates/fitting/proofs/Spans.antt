@@ -1,14 +1,13 @@
 -- The memberships outside a trigger's rows may be left out at both ends: no order is asked of them.
-use mathlib.Core.Bool.{Bool, true, false, not, _&&_, _||_}
-use mathlib.Core.Path.{_≡_, refl, sym, ap, ap₂, _∙_, subst}
+use mathlib.Core.Bool.{Bool, false, _&&_}
+use mathlib.Core.Path.{_≡_, refl, sym, ap, _∙_, subst}
 use Prim.Native.Nat.{ℕ, zero, suc, _+_, _-_, _*_, _≤_, _<_}
 use native.Mathlib.Omega.{arith}
-use native.Mathlib.Nat.{le-refl}
 use mathlib.Core.List.{List, [], _∷_, _++_}
-use lib.Dec.{leb, ltb, eqb}
+use lib.Dec.{ltb}
 use Rattle.octets.specs.Lists.{pick, only}
 use Rattle.profile.specs.Image.{Member}
-use Rattle.profile.specs.Places.{spaced, word, memberAt}
+use Rattle.profile.specs.Places.{word, memberAt}
 use Rattle.profile.specs.declared.Member as declared
 use Rattle.profile.specs.Decoded.{member-from}
 use Rattle.fitting.specs.Fitting.{by-form}

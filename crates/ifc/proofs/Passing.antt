@@ -1,7 +1,6 @@
 -- What the layers below promise of an answer, passed on part by part.
-use mathlib.Core.Bool.{Bool, true, false}
 use mathlib.Core.List.{List}
-use mathlib.Core.Path.{_≡_, refl, ap, _∙_}
+use mathlib.Core.Path.{_≡_, ap, _∙_}
 use Prim.Native.Nat.{ℕ}
 use Rattle.profile.specs.Lookups.{Checks, Serves, Informs}
 use Rattle.profile.specs.declared.Checked.{Checked}

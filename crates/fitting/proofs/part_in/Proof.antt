@@ -1,4 +1,3 @@
-use borrow.Author.Needs.{needs}
 use Rattle.fitting.proofs.Members.{part-zero, part-one, part-any}
 use Rattle.fitting.proofs.part_in.Statement.{statement}
 use Rattle.fitting.proofs.part_in.Tie as tie

@@ -1,5 +1,5 @@
 use borrow.Author.Needs.{needs}
-use Rattle.fitting.proofs.Ruling.{row-matchable, tried-nth, row-there}
+use Rattle.fitting.proofs.Ruling.{row-matchable, tried-nth}
 use Rattle.fitting.proofs.try_nth.Statement.{statement}
 use Rattle.fitting.proofs.try_nth.Tie as tie
 
