@@ -1,4 +1,4 @@
-/* How long the check of an image takes as the image grows: each family doubles, and the time for a byte should not. */
+/* How long the check of an image takes as the image grows: each family doubles. Not linear yet: "long ones". */
 #include <stddef.h>
 #include <stdint.h>
 #include <stdio.h>

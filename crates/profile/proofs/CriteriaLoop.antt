@@ -5,7 +5,7 @@ use native.Mathlib.Nat.{sub-zero}
 use native.Mathlib.Numerals.{add-one}
 use native.Mathlib.Decide.{ℕ-discrete}
 use mathlib.Core.Path.{_≡_, refl, sym, ap, _∙_}
-use mathlib.Core.Bool.{Bool, true, false, _||_}
+use mathlib.Core.Bool.{Bool, true, false, _||_, or-false}
 use mathlib.Core.List.{List, [], _∷_, _++_}
 use lib.ListN.{length}
 use lib.Dec.{leb, eqb}
@@ -41,11 +41,7 @@ rest-stays s strs rows p at =
     λ _ q e. (ap (λ (x : Criterion × ℕ). x .0 .priority) (sym (good-inj e)), ap (λ (x : Criterion × ℕ). x .1) (sym (good-inj e)))
 
 stands-snoc : (l : List Criterion) (c : Criterion) (p : ℕ) → stands (l ++ (c ∷ [])) p ≡ (stands l p || eqb (c .priority) p)
-stands-snoc [] c p = last (eqb (c .priority) p)
-  where
-    last : (b : Bool) → (b || false) ≡ b
-    last true = refl
-    last false = refl
+stands-snoc [] c p = or-false (eqb (c .priority) p)
 stands-snoc (k ∷ l) c p = go (eqb (k .priority) p) _ _ _ (stands-snoc l c p)
   where
     go : (b x y z : Bool) → x ≡ (y || z) → (b || x) ≡ ((b || y) || z)

@@ -1,54 +1,29 @@
--- How many there are at most: values of a field, fields with their values, lines of a body.
-use mathlib.Core.Bool.{Bool}
+-- The fields of a request with their values are no more than the bytes of its head.
 use mathlib.Core.Option.{some}
 use mathlib.Core.Path.{_≡_, refl, sym, ap, subst}
-use mathlib.Core.List.{List, [], _∷_, map}
+use mathlib.Core.List.{List, [], _∷_}
 use Prim.Native.Nat.{ℕ, zero, suc, _+_, _≤_, _<_, zero-le, suc-le-suc}
 use native.Mathlib.Nat.{le-trans}
 use native.Mathlib.Omega.{arith}
 use native.Mathlib.Decide.{decLe}
-use lib.ListN.{length, take, drop, length-drop, length-map, length-append}
-use lib.Dec.{T, eqb}
+use lib.ListN.{length, take, drop, length-drop}
+use lib.Dec.{T}
 use lib.Seq.{length-take-le}
 use Rattle.octets.specs.Lists.{total}
-use Rattle.octets.proofs.Tests.{either}
-use Rattle.request.specs.Body.{Line, ended, line, lines, session-lines}
-use Rattle.request.specs.Cutting.{push, cut-by, cut-at}
 use Rattle.request.specs.Places.{part, colon-in}
 use Rattle.request.specs.Request.{Field, paired, name-as-matched, field, all-fields}
 use Rattle.request.specs.Searching.{first, line-break}
 use Rattle.request.specs.Steps.{lines-from}
-use Rattle.request.specs.Values.{step, plain, cuts, trim-right, trim, reduced, pieces, never-cut, values-of}
+use Rattle.request.specs.Values.{trim-right, reduced}
 use Rattle.request.proofs.Accepted.{Accepts}
 use Rattle.request.proofs.Fields.{end-order, end-inside}
 use Rattle.request.proofs.Lines.{line-here, line-next, line-past}
 use Rattle.request.proofs.Norm.{reduced-le}
 use Rattle.request.proofs.Nth.{cons, field-is, colon-in-line, name-token, token-long}
 use Rattle.request.proofs.Parts.{length-part}
+use Rattle.request.proofs.Small.{values-length}
 use Rattle.request.proofs.Somes.{some-is}
 use Rattle.request.proofs.Trims.{trim-le}
-
--- ---- pieces
-
-push-le : (b n : ℕ) (ls : List (List ℕ)) → length ls ≤ n + 1 → length (push b ls) ≤ suc n + 1
-push-le b n [] h = omega arith
-push-le b n (l ∷ ls) h = omega arith
-
-module _ {M : Type 0} (stops : M → ℕ → Bool) (next : M → ℕ → M) where
-  cuts-few : (m : M) (s : List ℕ) → length (cut-by stops next m s) ≤ length s + 1
-  unfolding cut-by
-  cuts-few m [] = omega arith
-  cuts-few m (b ∷ s) =
-      let later = cut-by stops next (next m b) s in
-      let h : length later ≤ length s + 1 = cuts-few (next m b) s in
-      either (λ (ls : List (List ℕ)). length ls ≤ suc (length s) + 1) (stops m b) ([] ∷ later) (push b later) (omega arith) (push-le b (length s) later h)
-
--- one value more than bytes, at most
-pub values-few : (name v : List ℕ) → length (values-of name v) ≤ length v + 1
-unfolding values-of
-values-few name v =
-    either (λ (ls : List (List ℕ)). length ls ≤ length v + 1) (never-cut name) (v ∷ []) (map trim (pieces v)) (omega arith)
-    (omega (arith, length-map (pieces v) trim, cuts-few cuts step plain v))
 
 -- ---- fields with their values
 
@@ -61,8 +36,8 @@ field-few l f e =
     let c = colon-in l in
     let name = trim-right (take c l) in
     let raw = drop (c + 1) l in
-    let many : length (f .values) ≤ length (reduced raw) + 1 =
-    subst (λ (g : Field). length (g .values) ≤ length (reduced raw) + 1) (sym (field-is l f e)) (values-few (name-as-matched name) (reduced raw))
+    let many : length (f .values) ≤ 1 + length (reduced raw) =
+    subst (λ (g : Field). length (g .values) ≤ 1 + length (reduced raw)) (sym (field-is l f e)) (values-length (name-as-matched name) (reduced raw))
     in
     let some-name : 0 < length name = token-long name (name-token l f e) in
     let name-short : length name ≤ c = le-trans (trim-le (take c l)) (take-short c l) in
@@ -112,24 +87,3 @@ request-few s e m u f k =
     let ls = lines-from h f in
     let few : total length ls + f ≤ length h + 2 = lines-few (length ls) h f (omega arith) (omega (arith, k .start-inside, long)) (k .paired-on) in
     omega (arith, fields-few ls (k .request .fields) (k .fields-are), few, long, k .start-is)
-
--- ---- lines of a body
-
-ended-length : (ls : List (List ℕ)) → length (ended ls) ≡ length ls
-unfolding ended
-ended-length [] = refl
-ended-length (l ∷ []) = refl
-ended-length (l ∷ m ∷ ls) = ap suc (ended-length (m ∷ ls))
-
-line-one : (l : List ℕ) → length (line l) ≤ 1
-line-one [] = zero-le
-line-one (t ∷ []) = zero-le
-line-one (t ∷ e ∷ v) = either (λ (ls : List Line). length ls ≤ 1) (eqb e 61) (record { type = t ∷ []; value = v } ∷ []) [] (omega arith) zero-le
-
-lines-one : (ls : List (List ℕ)) → length (lines ls) ≤ length ls
-lines-one [] = zero-le
-lines-one (l ∷ ls) = omega (arith, length-append (line l) (lines ls), line-one l, lines-one ls)
-
-pub session-few : (b : List ℕ) → length (session-lines b) ≤ length b + 1
-unfolding session-lines
-session-few b = omega (arith, lines-one (ended (cut-at 10 b)), ended-length (cut-at 10 b), cuts-few (λ (u : Unit {0}) x. eqb x 10) (λ u x. u) tt b)

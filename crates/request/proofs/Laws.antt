@@ -1,5 +1,5 @@
 -- What a caller goes by. Beside these: `indexed` and `field-says` (Indexing) for fields, `value-says` (Values) for values, `line-says`
--- (BodyLines) for body lines, `values-few`, `request-few` and `session-few` (Few) for how many there are.
+-- (BodyLines) for body lines, `request-few` (Few), `values-length` and `session-lines-length` (Small) for how many there are.
 use mathlib.Core.Option.{some}
 use mathlib.Core.Path.{_≡_, sym, ap, _∙_}
 use mathlib.Core.List.{List}

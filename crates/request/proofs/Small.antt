@@ -3,21 +3,22 @@ use mathlib.Core.Bool.{Bool, not, _&&_}
 use mathlib.Core.Option.{some}
 use mathlib.Core.Path.{_≡_, refl, ap}
 use Prim.Native.Nat.{ℕ, suc, _+_, _*_, _≤_, _<_, zero-le, suc-le-suc}
-use native.Mathlib.Nat.{le-refl, le-step, add-le-add}
+use native.Mathlib.Nat.{le-step, add-le-add}
 use native.Mathlib.Omega.{arith}
 use mathlib.Core.List.{List, [], _∷_, map}
 use lib.ListN.{length, drop, length-append, length-drop, length-map}
 use lib.Dec.{T, leb, eqb, leb→le}
-use Rattle.octets.specs.Lists.{text, every, only, total, empty, peek}
+use Rattle.octets.specs.Lists.{text, every, only, total}
 use Rattle.octets.specs.Option.{_>>=_, holds}
-use Rattle.octets.specs.Bytes.{token, white}
+use Rattle.octets.specs.Bytes.{token}
 use Rattle.octets.proofs.Tests.{either}
 use Rattle.octets.proofs.Options.{Ok, ok-then, any, holds-T}
 use Rattle.octets.proofs.Kept.{kept-le}
 use Rattle.request.specs.Cutting.{Cut, begins, first-cut, push, cut-by, cut-at}
-use Rattle.request.specs.Values.{trim-left, trim-right, trim, spaces, squeeze, reduced, plain, step, cuts, pieces, never-cut, values-of}
+use Rattle.request.specs.Values.{trim-right, trim, reduced, plain, step, cuts, pieces, never-cut, values-of}
 use Rattle.request.specs.Request.{Request, Field, attach, continues, whole-fields, field, all-fields, head, head-lines, head-byte, paired, start-line, Start, empty-line, read-request}
 use Rattle.request.specs.Body.{Line, ended, line, lines, session-lines}
+use Rattle.request.proofs.Norm.{reduced-le}
 
 -- ---- cutting makes nothing longer
 
@@ -73,34 +74,6 @@ cut-shorter a p (b ∷ s) =
     (λ c h. record { before-le = suc-le-suc (h .before-le); after-lt = le-step (h .after-lt) }))
 
 -- ---- values
-
-trim-left-le : (s : List ℕ) → length (trim-left s) ≤ length s
-unfolding trim-left
-trim-left-le [] = zero-le
-trim-left-le (b ∷ s) =
-    either (λ (k : List ℕ). length k ≤ suc (length s)) (white b) (trim-left s) (b ∷ s) (le-step (trim-left-le s)) (le-refl (suc (length s)))
-
-trim-right-le : (s : List ℕ) → length (trim-right s) ≤ length s
-unfolding trim-right
-trim-right-le [] = zero-le
-trim-right-le (b ∷ s) =
-    either (λ (k : List ℕ). length k ≤ suc (length s)) (white b && empty (trim-right s)) [] (b ∷ trim-right s) zero-le (suc-le-suc (trim-right-le s))
-
-spaces-length : (s : List ℕ) → length (spaces s) ≡ length s
-spaces-length [] = refl
-spaces-length (b ∷ s) = ap suc (spaces-length s)
-
-squeeze-le : (s : List ℕ) → length (squeeze s) ≤ length s
-unfolding squeeze
-squeeze-le [] = zero-le
-squeeze-le (b ∷ s) =
-    either (λ (k : List ℕ). length k ≤ suc (length s)) (eqb b 32 && eqb (peek (squeeze s)) 32) (squeeze s) (b ∷ squeeze s)
-    (le-step (squeeze-le s)) (suc-le-suc (squeeze-le s))
-
-pub reduced-le : (raw : List ℕ) → length (reduced raw) ≤ length raw
-unfolding reduced
-reduced-le raw =
-    omega (arith, trim-left-le (trim-right (squeeze (spaces raw))), trim-right-le (squeeze (spaces raw)), squeeze-le (spaces raw), spaces-length raw)
 
 pub values-length : (name v : List ℕ) → length (values-of name v) ≤ 1 + length v
 unfolding values-of

@@ -1,5 +1,5 @@
 -- A field or a line, by its name and its values; and what the lists of them come to.
-use mathlib.Core.Bool.{Bool, true, false, not}
+use mathlib.Core.Bool.{Bool, true, false, not, or-false}
 use mathlib.Core.Path.{_≡_, refl, sym, ap, ap₂, _∙_}
 use mathlib.Core.List.{List, [], _∷_}
 use Prim.Native.Nat.{ℕ, _+_, _-_, _*_, _≤_}
@@ -17,7 +17,6 @@ use Rattle.request.specs.Request.{Field, name-as-matched}
 use Rattle.request.specs.Values.{reduced, values-of}
 use Rattle.rows.specs.Trying.{values-row, named-row, item-row, field-row, line-row}
 use Rattle.rows.specs.declared.Verdict.{Verdict}
-use Rattle.rows.proofs.Sweep.{or-none}
 
 -- ---- one item
 
@@ -48,7 +47,7 @@ module _ (h : List ℕ) (with : Bool) (c name value : List ℕ) (m : Bool) (em :
   unfolding values-row
   item-one w v ev =
       item-with false h with c name (value ∷ []) m em k w (record { fits = v; trials = 1 })
-      (ap (λ (b : Bool). record { fits = b; trials = 1 }) (ev ∙ sym (or-none (meets-text false c value))))
+      (ap (λ (b : Bool). record { fits = b; trials = 1 }) (ev ∙ sym (or-false (meets-text false c value))))
 
 -- ---- the name of a field, as it is matched, in its room
 

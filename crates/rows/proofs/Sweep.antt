@@ -1,5 +1,5 @@
 -- A loop over a list that asks whether some element passes, and sums: what remains, always.
-use mathlib.Core.Bool.{Bool, true, false, _||_}
+use mathlib.Core.Bool.{Bool, true, false, _||_, or-false}
 use mathlib.Core.Path.{_≡_, refl, sym, ap, ap₂, _∙_}
 use Prim.Native.Nat.{ℕ, _+_}
 use native.Mathlib.Nat.{zero-add, add-zero, add-assoc}
@@ -10,10 +10,6 @@ use Rattle.rows.specs.declared.Verdict.{Verdict}
 pub record Swept {A : Type 0} (f : A → Bool) (g : A → ℕ) (rest : List A) (fits : Bool) (trials : ℕ) (whole : Verdict) : Type 0 where
   pub fit : (fits || some-of f rest) ≡ whole .fits
   pub tried : trials + total g rest ≡ whole .trials
-
-pub or-none : (b : Bool) → (b || false) ≡ b
-or-none true = refl
-or-none false = refl
 
 or-then : (a b c : Bool) → ((a || b) || c) ≡ (a || (b || c))
 or-then true b c = refl
@@ -33,5 +29,5 @@ module _ {A : Type 0} (f : A → Bool) (g : A → ℕ) where
     pub swept-end : rest ≡ [] → _≡_ {A = Verdict} (record { fits = fits; trials = trials }) whole
     swept-end e =
         ap₂ (λ (b : Bool) (j : ℕ). record { fits = b; trials = j })
-        (sym (or-none fits) ∙ sym (ap (λ (l : List A). fits || some-of f l) e) ∙ w .fit)
+        (sym (or-false fits) ∙ sym (ap (λ (l : List A). fits || some-of f l) e) ∙ w .fit)
         (sym (add-zero trials) ∙ sym (ap (λ (l : List A). trials + total g l) e) ∙ w .tried)

@@ -1,5 +1,5 @@
 -- The loop over the values of a field, and the two ways to its values.
-use mathlib.Core.Bool.{Bool, true, false, _||_}
+use mathlib.Core.Bool.{Bool, true, false, _||_, or-false}
 use mathlib.Core.Path.{_≡_, refl, sym, ap, _∙_, subst}
 use mathlib.Core.List.{List}
 use Prim.Native.Nat.{ℕ, _+_, _-_, _≤_, _<_}
@@ -17,7 +17,7 @@ use Rattle.request.proofs.Norm.{reduced-le}
 use Rattle.request.proofs.Values.{ValueAt, value-says, values-past, values-cut, values-whole}
 use Rattle.rows.specs.Trying.{values-row}
 use Rattle.rows.specs.declared.Verdict.{Verdict}
-use Rattle.rows.proofs.Sweep.{Swept, swept-first, swept-next, swept-end, or-none}
+use Rattle.rows.proofs.Sweep.{Swept, swept-first, swept-next, swept-end}
 
 -- ---- the loop
 
@@ -94,7 +94,7 @@ module _ (raw before room : List ℕ) (n : ℕ) (en : n ≡ length (reduced raw)
         → _≡_ {A = Verdict} (record { fits = m; trials = 1 }) (values-row c (values-of name (reduced raw)))
     unfolding values-row
     values-once m em h =
-        ap (λ (b : Bool). record { fits = b; trials = 1 }) (em ∙ ap (meets-text false c) front ∙ sym (or-none (meets-text false c (reduced raw))))
+        ap (λ (b : Bool). record { fits = b; trials = 1 }) (em ∙ ap (meets-text false c) front ∙ sym (or-false (meets-text false c (reduced raw))))
         ∙ sym (ap (values-row c) (values-whole name (reduced raw) (sym e ∙ h)))
 
     pub values-pieces : (v : Verdict) → v ≡ values-row c (values-from (take (n - 0) room) 0) → r ≡ false
