@@ -1,3 +1,10 @@
+pub mod Advancing
 pub mod Chosen
+pub mod Finding
 pub mod Rising
+pub mod Scanning
+pub mod Standings
+pub mod Sums
 pub mod Trials
+pub mod WalkLoop
+pub mod Walking

@@ -2,3 +2,4 @@ pub mod Advance
 pub mod Examples
 pub mod Listing
 pub mod Order
+pub mod Scan

@@ -43,7 +43,7 @@ module _ (s starts colons : List ℕ) (p : Places) (k : Placed s starts colons p
   request-is : request-of s ≡ accepted .request
   request-is = request-of-is s (accepted .request) (accepted .read)
 
-  reads-so : read-request s ≡ some (request-of s)
+  pub reads-so : read-request s ≡ some (request-of s)
   reads-so = accepted .read ∙ ap some (sym request-is)
 
   pub method-is : request-of s .method ≡ take (p .method) s
