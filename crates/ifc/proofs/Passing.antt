@@ -8,7 +8,12 @@ use Rattle.profile.specs.declared.Lookup.{Lookup}
 use Rattle.session.specs.Session.{Opens, Reports}
 use Rattle.session.specs.declared.Opened.{Opened}
 use Rattle.session.specs.declared.Reported.{Reported}
-use Rattle.ifc.specs.Exports.{as-number, session-of, CheckTo, OpenTo, ReportTo, ServerTo, InformationTo}
+use Rattle.rows.specs.Tried.{given}
+use Rattle.route.specs.Advance.{Advances}
+use Rattle.route.specs.Listing.{Lists}
+use Rattle.route.specs.declared.Advanced.{Advanced}
+use Rattle.route.specs.declared.Listed.{Listed}
+use Rattle.ifc.specs.Exports.{as-number, session-of, CheckTo, OpenTo, ReportTo, ServerTo, InformationTo, AdvanceTo, ListTo}
 
 pub passes-check : {image : List ℕ} {a : Checked} → Checks image a → CheckTo image (a .refusal) (a .place)
 passes-check h = record { number-is = ap (λ (x : Checked). x .refusal) (h .answer); place-is = ap (λ (x : Checked). x .place) (h .answer) }
@@ -48,4 +53,36 @@ passes-information h e =
       present-is = e ∙ ap (λ (x : Lookup). as-number (x .present)) (h .answer);
       start-is = ap (λ (x : Lookup). x .start) (h .answer);
       length-is = ap (λ (x : Lookup). x .length) (h .answer);
+    }
+
+pub passes-advance : {case before forwarded last handling : ℕ} {image request : List ℕ} {a : Advanced}
+    → Advances (session-of case before forwarded last handling) image request a
+    → AdvanceTo case before forwarded last handling image request (a .refusal) (a .session .state) (a .session .forwarded) (a .session .last)
+    (a .session .handling) (a .place) (a .outcome) (a .number) (a .priority) (a .examined) (a .trials)
+passes-advance h =
+    record {
+      number-is = ap (λ (x : Advanced). x .refusal) (h .answer);
+      state-is = ap (λ (x : Advanced). x .session .state) (h .answer);
+      forwarded-is = ap (λ (x : Advanced). x .session .forwarded) (h .answer);
+      last-is = ap (λ (x : Advanced). x .session .last) (h .answer);
+      handling-is = ap (λ (x : Advanced). x .session .handling) (h .answer);
+      place-is = ap (λ (x : Advanced). x .place) (h .answer);
+      outcome-is = ap (λ (x : Advanced). x .outcome) (h .answer);
+      criterion-is = ap (λ (x : Advanced). x .number) (h .answer);
+      priority-is = ap (λ (x : Advanced). x .priority) (h .answer);
+      examined-is = ap (λ (x : Advanced). x .examined) (h .answer);
+      trials-is = ap (λ (x : Advanced). x .trials) (h .answer);
+    }
+
+pub passes-list : {image request : List ℕ} {case registration : ℕ} {before after : List ℕ} {a : Listed}
+    → Lists (given case registration) image request before a after
+    → ListTo image request case registration before after (a .refusal) (a .place) (a .count) (a .examined) (a .trials)
+passes-list h =
+    record {
+      number-is = ap (λ (x : Listed). x .refusal) (h .answer);
+      list-is = h .places;
+      place-is = ap (λ (x : Listed). x .place) (h .answer);
+      count-is = ap (λ (x : Listed). x .count) (h .answer);
+      examined-is = ap (λ (x : Listed). x .examined) (h .answer);
+      trials-is = ap (λ (x : Listed). x .trials) (h .answer);
     }

@@ -7,6 +7,9 @@ use Rattle.octets.specs.Lists.{pick}
 use Rattle.profile.specs.Lookups.{check, server, information}
 use Rattle.session.specs.Session.{open-session, report-session}
 use Rattle.session.specs.declared.Session.{Session}
+use Rattle.rows.specs.Tried.{given}
+use Rattle.route.specs.Advance.{advance}
+use Rattle.route.specs.Listing.{listing}
 
 -- yes is 1, no is 0
 abbrev pub as-number : Bool → ℕ
@@ -50,3 +53,27 @@ pub record InformationTo (image : List ℕ) (criterion number place present star
   pub present-is : present ≡ as-number (information image criterion .present)
   pub start-is : start ≡ information image criterion .start
   pub length-is : length ≡ information image criterion .length
+
+-- advance: the session's four numbers that may change, and the answer's
+pub record AdvanceTo (case before forwarded₀ last₀ handling₀ : ℕ) (image request : List ℕ)
+    (number state forwarded last handling place outcome criterion priority examined trials : ℕ) : Type 0 where
+  pub number-is : number ≡ advance (session-of case before forwarded₀ last₀ handling₀) image request .refusal
+  pub state-is : state ≡ advance (session-of case before forwarded₀ last₀ handling₀) image request .session .state
+  pub forwarded-is : forwarded ≡ advance (session-of case before forwarded₀ last₀ handling₀) image request .session .forwarded
+  pub last-is : last ≡ advance (session-of case before forwarded₀ last₀ handling₀) image request .session .last
+  pub handling-is : handling ≡ advance (session-of case before forwarded₀ last₀ handling₀) image request .session .handling
+  pub place-is : place ≡ advance (session-of case before forwarded₀ last₀ handling₀) image request .place
+  pub outcome-is : outcome ≡ advance (session-of case before forwarded₀ last₀ handling₀) image request .outcome
+  pub criterion-is : criterion ≡ advance (session-of case before forwarded₀ last₀ handling₀) image request .number
+  pub priority-is : priority ≡ advance (session-of case before forwarded₀ last₀ handling₀) image request .priority
+  pub examined-is : examined ≡ advance (session-of case before forwarded₀ last₀ handling₀) image request .examined
+  pub trials-is : trials ≡ advance (session-of case before forwarded₀ last₀ handling₀) image request .trials
+
+-- the listing: the lent list, and the answer's numbers
+pub record ListTo (image request : List ℕ) (case registration : ℕ) (before after : List ℕ) (number place count examined trials : ℕ) : Type 0 where
+  pub number-is : number ≡ listing (given case registration) image request before .answer .refusal
+  pub list-is : after ≡ listing (given case registration) image request before .places
+  pub place-is : place ≡ listing (given case registration) image request before .answer .place
+  pub count-is : count ≡ listing (given case registration) image request before .answer .count
+  pub examined-is : examined ≡ listing (given case registration) image request before .answer .examined
+  pub trials-is : trials ≡ listing (given case registration) image request before .answer .trials

@@ -1,11 +1,15 @@
 // The calls as C makes them: numbers and bytes in, numbers out. Nothing but passing on.
 ghost use mathlib.Core.Path.{_≡_};
-ghost use Rattle.ifc.specs.Exports.{CheckTo, OpenTo, ReportTo, ServerTo, InformationTo, as-number};
+ghost use Rattle.ifc.specs.Exports.{CheckTo, OpenTo, ReportTo, AdvanceTo, ListTo, ServerTo, InformationTo, as-number};
 use profile::Checked;
 use profile::Lookup;
 use profile::check;
 use profile::information;
 use profile::server;
+use route::Advanced;
+use route::Listed;
+use route::advance;
+use route::list as list_into;
 use session::Opened;
 use session::Reported;
 use session::Session;
@@ -42,6 +46,45 @@ pub extern "C" fn ifc_open(
 }
 
 #[no_mangle]
+pub extern "C" fn ifc_advance(
+    image: &[u8],
+    request: &[u8],
+    case: u32,
+    state: &mut u32,
+    forwarded: &mut u32,
+    last: &mut u32,
+    handling: &mut u32,
+    place: &mut u32,
+    outcome: &mut u32,
+    criterion: &mut u32,
+    priority: &mut u32,
+    examined: &mut u32,
+    trials: &mut u32,
+) -> u32
+    ensures { λ r. ⌜ AdvanceTo case (now (state .entry)) (now (forwarded .entry)) (now (last .entry)) (now (handling .entry)) (now (image .entry)) (now (request .entry)) r (now (state .exit)) (now (forwarded .exit)) (now (last .exit)) (now (handling .exit)) (now (place .exit)) (now (outcome .exit)) (now (criterion .exit)) (now (priority .exit)) (now (examined .exit)) (now (trials .exit)) ⌝ }
+{
+    let x = Session {
+        case,
+        state: *state,
+        forwarded: *forwarded,
+        last: *last,
+        handling: *handling,
+    };
+    let a = advance(x, image, request);
+    *state = a.session.state;
+    *forwarded = a.session.forwarded;
+    *last = a.session.last;
+    *handling = a.session.handling;
+    *place = a.place;
+    *outcome = a.outcome;
+    *criterion = a.number;
+    *priority = a.priority;
+    *examined = a.examined;
+    *trials = a.trials;
+    a.refusal
+}
+
+#[no_mangle]
 pub extern "C" fn ifc_report(
     case: u32,
     state: &mut u32,
@@ -62,6 +105,28 @@ pub extern "C" fn ifc_report(
     let reported = report_on(x, report);
     *state = reported.session.state;
     reported.refusal
+}
+
+#[no_mangle]
+pub extern "C" fn ifc_list(
+    image: &[u8],
+    request: &[u8],
+    case: u32,
+    registration: u32,
+    list: &mut [u8],
+    place: &mut u32,
+    count: &mut u32,
+    examined: &mut u32,
+    trials: &mut u32,
+) -> u32
+    ensures { λ r. ⌜ ListTo (now (image .entry)) (now (request .entry)) case registration (now (list .entry)) (now (list .exit)) r (now (place .exit)) (now (count .exit)) (now (examined .exit)) (now (trials .exit)) ⌝ }
+{
+    let a = list_into(image, request, case, registration, list);
+    *place = a.place;
+    *count = a.count;
+    *examined = a.examined;
+    *trials = a.trials;
+    a.refusal
 }
 
 #[no_mangle]
