@@ -27,6 +27,13 @@ uint32_t ifc_open(uint32_t wanted_case, uint32_t *session_case, uint32_t *state,
  * 10, the state stays. */
 uint32_t ifc_report(uint32_t session_case, uint32_t *state, uint32_t forwarded, uint32_t last, uint32_t handling, uint32_t report);
 
+uint32_t ifc_advance(const uint8_t *image, size_t image_len, const uint8_t *request, size_t request_len, uint32_t session_case,
+    uint32_t *state, uint32_t *forwarded, uint32_t *last, uint32_t *handling, uint32_t *place, uint32_t *outcome,
+    uint32_t *criterion, uint32_t *priority, uint32_t *examined, uint32_t *trials);
+uint32_t ifc_list(const uint8_t *image, size_t image_len, const uint8_t *request, size_t request_len, uint32_t session_case,
+    uint32_t registration_type, uint8_t *list, size_t list_len, uint32_t *place, uint32_t *count, uint32_t *examined,
+    uint32_t *trials);
+
 /* Where a criterion's server name stands in the image. */
 uint32_t ifc_server(const uint8_t *image, size_t image_len, uint32_t criterion, uint32_t *place, uint32_t *start,
     uint32_t *length);

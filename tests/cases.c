@@ -1,8 +1,10 @@
 /* cases CASES KEPT ANSWERS: runs a case file of the second program through libifc.a. Writes the cases that the library has calls
  * for to KEPT and what it answered to ANSWERS, for `second compare KEPT ANSWERS`.
  *
- * Each case is run twice: the image ends where an inaccessible page begins, then begins where one ends. A byte read outside it
- * stops the program; two answers that differ do, too. */
+ * Each case is run twice: image, request and list each end where an inaccessible page begins, then each begins where one ends. A
+ * byte read or written outside stops the program; so do two answers that differ, and an image or request that was changed.
+ *
+ * -DIFC_ALL: the library has advance and list. */
 #include <stddef.h>
 #include <stdint.h>
 #include <stdio.h>
@@ -82,21 +84,39 @@ static void keep(FILE *kept, const struct one *c) {
 }
 
 static int has(uint32_t call) {
+#ifdef IFC_ALL
+    return call <= INFORMATION;
+#else
     return call == CHECK || call == OPEN || call == REPORT || call == SERVER || call == INFORMATION;
+#endif
 }
 
-static uint32_t call(const struct one *c, const uint8_t *image, uint32_t *n) {
+/* What a case lends: each in a room of its own. */
+struct lent {
+    uint8_t *image, *request, *list;
+};
+
+static uint32_t call(const struct one *c, const struct lent *at, uint32_t *n) {
+    const uint8_t *image = at->image;
     size_t length = c->image.length;
     switch (c->call) {
     case CHECK: return ifc_check(image, length, &n[0]);
     case OPEN: return ifc_open(n[0], &n[1], &n[2], &n[3], &n[4], &n[5]);
+#ifdef IFC_ALL
+    case ADVANCE:
+        return ifc_advance(image, length, at->request, c->request.length, n[0], &n[1], &n[2], &n[3], &n[4], &n[5], &n[6], &n[7],
+            &n[8], &n[9], &n[10]);
+    case LIST:
+        return ifc_list(image, length, at->request, c->request.length, n[0], n[1], at->list, c->list.length, &n[2], &n[3], &n[4],
+            &n[5]);
+#endif
     case REPORT: return ifc_report(n[0], &n[1], n[2], n[3], n[4], n[5]);
     case SERVER: return ifc_server(image, length, n[0], &n[1], &n[2], &n[3]);
     default: return ifc_information(image, length, n[0], &n[1], &n[2], &n[3], &n[4]);
     }
 }
 
-/* ---- a room between two inaccessible pages */
+/* ---- rooms between two inaccessible pages */
 
 static uint8_t *room(void) {
     uint8_t *all = mmap(NULL, ROOM + 2 * PAGE, PROT_READ | PROT_WRITE, MAP_PRIVATE | MAP_ANONYMOUS, -1, 0);
@@ -105,12 +125,34 @@ static uint8_t *room(void) {
     return all + PAGE;
 }
 
+/* A part of a case at the end of a room, or at its start. */
+static uint8_t *lend(uint8_t *room, const struct bytes *part, int end) {
+    uint8_t *at = end ? room + ROOM - part->length : room;
+    memcpy(at, part->at, part->length);
+    return at;
+}
+
+static int changed(const uint8_t *at, const struct bytes *part) { return memcmp(at, part->at, part->length) != 0; }
+
+/* Runs a case at one end of the rooms; the answer's numbers are left in n, its list in `list`. */
+static uint32_t run(const struct one *c, const struct lent *rooms, int end, uint32_t *n, struct bytes *list) {
+    struct lent at = {lend(rooms->image, &c->image, end), lend(rooms->request, &c->request, end),
+        lend(rooms->list, &c->list, end)};
+    memcpy(n, c->n, sizeof c->n);
+    uint32_t refusal = call(c, &at, n);
+    if (changed(at.image, &c->image) || changed(at.request, &c->request)) stop("what was lent to be read was changed");
+    list->length = c->list.length;
+    memcpy(list->at, at.list, c->list.length);
+    return refusal;
+}
+
 int main(int argc, char **argv) {
     static struct one c;
+    static struct bytes list, again;
     if (argc != 4) stop("cases CASES KEPT ANSWERS");
     FILE *in = fopen(argv[1], "rb"), *kept = fopen(argv[2], "wb"), *answers = fopen(argv[3], "wb");
     if (!in || !kept || !answers) stop("cannot open a file");
-    uint8_t *lent = room();
+    struct lent rooms = {room(), room(), room()};
     uint32_t had = 0;
     if (number(in) != 0x49464343) stop("not a case file");
     uint32_t count = number(in);
@@ -120,18 +162,14 @@ int main(int argc, char **argv) {
         uint32_t at_end[MOST], at_start[MOST];
         read_one(in, &c);
         if (!has(c.call)) continue;
-        memcpy(at_end, c.n, sizeof at_end);
-        memcpy(at_start, c.n, sizeof at_start);
-        uint8_t *image = lent + ROOM - c.image.length;
-        memcpy(image, c.image.at, c.image.length);
-        uint32_t first = call(&c, image, at_end);
-        memcpy(lent, c.image.at, c.image.length);
-        uint32_t second = call(&c, lent, at_start);
-        if (first != second || memcmp(at_end, at_start, sizeof at_end)) stop("one case has two answers");
+        uint32_t first = run(&c, &rooms, 1, at_end, &list);
+        uint32_t second = run(&c, &rooms, 0, at_start, &again);
+        if (first != second || memcmp(at_end, at_start, sizeof at_end) || memcmp(list.at, again.at, list.length))
+            stop("one case has two answers");
         had++;
         keep(kept, &c);
         put(answers, first);
-        put_bytes(answers, &c.list);
+        put_bytes(answers, &list);
         put_numbers(answers, at_end, c.count);
     }
     fseek(kept, 4, SEEK_SET), put(kept, had);
