@@ -1,14 +1,32 @@
-/* ifc: decides to which application server a call goes next.
+/* ifc: decides to which application server a SIP call goes next.
  *
- * Every function returns a refusal number, 0 for none. A lent number (uint32_t *) is written on every return. Lent places are
- * distinct. A slice may be NULL if its length is 0. Nothing is kept between calls, so any number of threads may call at once.
+ * A controller lends bytes and numbers; the library reads them and answers with numbers. It opens no file, sends nothing and
+ * allocates nothing. What it answers is settled by document 01; sentences in quotes here are from there.
  *
- * Refusals: 1 image over 32,768 bytes; 2 image ends too early; 3 bytes after the criteria; 4 field out of range, order or table,
- * or row without membership; 5 string wrong for its use; 6 repeated priority; 8 case above 3, report above 2; 10 call at the
- * wrong moment; 13 no such criterion.
- */
+ * Profile image   the subscriber's filter criteria in the house format, at most 32,768 bytes. Every call that takes an image
+ *                 judges all of it first, so an image need not be checked before.
+ * Request         one SIP request as it came from the wire: start line, fields, empty line, body; at most 65,535 bytes.
+ * Session         five numbers that the caller keeps between calls: see ifc_session.
+ * Criterion       named by its number in the image, counted from 0, not by its priority.
+ *
+ * What every call keeps to
+ *
+ * - It returns a refusal number, 0 for none. If several would apply, it is the first in this order: 10, 1 to 6 (the first fault
+ *   of the image in reading order), 7, 11, 8, 9, 12; for a lookup 13 after the image.
+ * - A lent number (uint32_t *) is written on every return. On a refusal it is 0, with two exceptions: `place`, where an image
+ *   fault (1 to 6) stands, in bytes from the image's start; and a session's numbers, which stay as they were. ifc_open alone
+ *   writes a session on a refusal, too.
+ * - Image and request are only read, and lent for the call: nothing points into them afterwards. They may be NULL if their length
+ *   is 0, and so may the list. All other pointers must be valid. Lent numbers and the list overlap nothing else that is lent.
+ * - There is no global state. Any number of threads may call at once, also over one image; a session belongs to one thread at a
+ *   time, as any variable does.
+ * - Stack: about 256 KB for a call; docs/TRUST.md has the figure that was measured.
+ * - Time is bounded by the limits above; bench/run shows how it grows.
+ *
+ * C99 and C++. Link with libifc.a. */
 #ifndef IFC_H
 #define IFC_H
+
 #include <stddef.h>
 #include <stdint.h>
 
@@ -16,31 +34,141 @@
 extern "C" {
 #endif
 
-/* The first fault of a profile image in reading order: its number, and its place in *place. */
+/* ---- numbers */
+
+/* Refusals, each with its line of document 01. */
+enum {
+    IFC_ACCEPTED = 0,
+    IFC_IMAGE_TOO_LONG = 1,       /* image over 32,768 */
+    IFC_IMAGE_CUT = 2,            /* image ends too early */
+    IFC_IMAGE_NOT_AT_END = 3,     /* bytes after the criteria */
+    IFC_IMAGE_FIELD = 4,          /* field out of range, order or table; row without membership */
+    IFC_IMAGE_STRING = 5,         /* string wrong for its use */
+    IFC_IMAGE_PRIORITY = 6,       /* repeated priority */
+    IFC_REQUEST_UNREADABLE = 7,   /* request unreadable */
+    IFC_NUMBER_OUT_OF_RANGE = 8,  /* case above 3, report above 2 */
+    IFC_TYPE_OUT_OF_RANGE = 9,    /* REGISTER with type above 2 */
+    IFC_WRONG_MOMENT = 10,        /* call at the wrong moment */
+    IFC_WRONG_METHOD = 11,        /* advance on REGISTER, listing on another method */
+    IFC_TOO_FEW_PLACES = 12,      /* more fitting criteria than places */
+    IFC_NO_SUCH_CRITERION = 13    /* no such criterion */
+};
+
+/* Session cases, as source document 002 numbers them. */
+enum {
+    IFC_ORIGINATING = 0,
+    IFC_TERMINATING_REGISTERED = 1,
+    IFC_TERMINATING_UNREGISTERED = 2,
+    IFC_ORIGINATING_UNREGISTERED = 3
+};
+
+/* Registration types. */
+enum { IFC_INITIAL_REGISTRATION = 0, IFC_REREGISTRATION = 1, IFC_DEREGISTRATION = 2 };
+
+/* States of a session. */
+enum {
+    IFC_READY = 0,    /* advance may be called */
+    IFC_WAITING = 1,  /* a criterion was answered: report what became of it */
+    IFC_FINISHED = 2, /* routed normally, or the opening was refused */
+    IFC_RELEASED = 3, /* the server was not reached, and its default handling is "terminated" */
+    IFC_ENDED = 4     /* the server gave the final response */
+};
+
+/* Default handling of the criterion last forwarded; "absent" in the image is read as continued. */
+enum { IFC_CONTINUED = 0, IFC_TERMINATED = 1 };
+
+/* Outcomes of an advance. 0 is none of them, so that a caller who forgets the refusal number cannot take it for routing. */
+enum { IFC_REFUSED = 0, IFC_FORWARD = 1, IFC_ROUTE = 2 };
+
+/* What is reported of a forward. */
+enum {
+    IFC_RETURNED = 0,      /* the server sent the call back: go on */
+    IFC_UNREACHABLE = 1,   /* the server was not reached: go on if the default is continued, else the session is released */
+    IFC_FINAL_RESPONSE = 2 /* the server answered finally: the session has ended */
+};
+
+/* ---- the calls */
+
+/* The first fault of a profile image in reading order: 0 or 1 to 6, and its place in *place. */
 uint32_t ifc_check(const uint8_t *image, size_t image_len, uint32_t *place);
 
-/* A session of the wanted case (0 to 3): ready, nothing forwarded. Refused with 8: a finished session of case 0. */
+/* "Opened with a case; ready, nothing forwarded." Writes all five numbers of a session. Refused with 8: "a finished session of
+ * case 0", on which every later call is refused. */
 uint32_t ifc_open(uint32_t wanted_case, uint32_t *session_case, uint32_t *state, uint32_t *forwarded, uint32_t *last,
     uint32_t *handling);
 
-/* What became of a forward: 0 the call came back, 1 the server was not reached, 2 it gave the final response. Refused with 8 or
- * 10, the state stays. */
-uint32_t ifc_report(uint32_t session_case, uint32_t *state, uint32_t forwarded, uint32_t last, uint32_t handling, uint32_t report);
-
+/* The next server of a ready session: "looks at criteria with priority above the last one forwarded (all, if none), smallest
+ * first". The request may differ at each advance, as servers change it.
+ *
+ * *outcome is IFC_FORWARD: the first of these that fits is *criterion, its priority *priority; the session waits.
+ * Or IFC_ROUTE: none fits; criterion and priority are 0; the session is finished.
+ * *examined: "criteria above the last one up to and with the answer, or all of those".
+ * *trials: how many comparisons of a row with a part of the request this took, "every row once with no skipping".
+ *
+ * Refused with 10 (not ready, or numbers that no session can have), 1 to 6, 7, or 11 (a REGISTER is listed instead). */
 uint32_t ifc_advance(const uint8_t *image, size_t image_len, const uint8_t *request, size_t request_len, uint32_t session_case,
     uint32_t *state, uint32_t *forwarded, uint32_t *last, uint32_t *handling, uint32_t *place, uint32_t *outcome,
     uint32_t *criterion, uint32_t *priority, uint32_t *examined, uint32_t *trials);
+
+/* What became of a forward, for a waiting session. Only the state changes. Refused with 10 or 8. */
+uint32_t ifc_report(uint32_t session_case, uint32_t *state, uint32_t forwarded, uint32_t last, uint32_t handling,
+    uint32_t report);
+
+/* For a REGISTER, without a session: the numbers of "every fitting criterion, priority rising" in the first places of the list,
+ * one byte a place; the rest of the list stays as it was. *count says how many. *examined is the number of criteria, *trials as
+ * for an advance.
+ *
+ * Refused with 1 to 6, 7, 11 (another method), 8, 9, or 12 (list too short; 64 places always suffice): the list stays. */
 uint32_t ifc_list(const uint8_t *image, size_t image_len, const uint8_t *request, size_t request_len, uint32_t session_case,
     uint32_t registration_type, uint8_t *list, size_t list_len, uint32_t *place, uint32_t *count, uint32_t *examined,
     uint32_t *trials);
 
-/* Where a criterion's server name stands in the image. */
+/* Where a criterion's server name stands in the image: *length bytes (never 0) from image + *start, with no zero byte at the end.
+ * Refused with 1 to 6 or 13. */
 uint32_t ifc_server(const uint8_t *image, size_t image_len, uint32_t criterion, uint32_t *place, uint32_t *start,
     uint32_t *length);
 
-/* Whether a criterion has service information (*present 1 or 0), and where it stands in the image. */
+/* Whether a criterion has service information (*present 1 or 0), and where it stands in the image. Present information may be
+ * empty. Refused with 1 to 6 or 13. */
 uint32_t ifc_information(const uint8_t *image, size_t image_len, uint32_t criterion, uint32_t *place, uint32_t *present,
     uint32_t *start, uint32_t *length);
+
+/* ---- for convenience: the same calls over two structs. They only pass addresses. */
+
+/* A session's five numbers. Copy, store and send them as you like; the library keeps nothing. */
+typedef struct ifc_session {
+    uint32_t session_case; /* 0 to 3 */
+    uint32_t state;        /* IFC_READY to IFC_ENDED */
+    uint32_t forwarded;    /* 1 if anything was forwarded, else 0 */
+    uint32_t last;         /* priority of the last criterion forwarded, 0 if none */
+    uint32_t handling;     /* its default handling, 0 if none */
+} ifc_session;
+
+/* What an advance answers. */
+typedef struct ifc_answer {
+    uint32_t place;     /* of an image fault */
+    uint32_t outcome;   /* IFC_REFUSED, IFC_FORWARD or IFC_ROUTE */
+    uint32_t criterion; /* for ifc_server and ifc_information */
+    uint32_t priority;
+    uint32_t examined;
+    uint32_t trials;
+} ifc_answer;
+
+static inline uint32_t ifc_session_open(ifc_session *session, uint32_t wanted_case) {
+    return ifc_open(wanted_case, &session->session_case, &session->state, &session->forwarded, &session->last,
+        &session->handling);
+}
+
+static inline uint32_t ifc_session_advance(ifc_session *session, const uint8_t *image, size_t image_len, const uint8_t *request,
+    size_t request_len, ifc_answer *answer) {
+    return ifc_advance(image, image_len, request, request_len, session->session_case, &session->state, &session->forwarded,
+        &session->last, &session->handling, &answer->place, &answer->outcome, &answer->criterion, &answer->priority,
+        &answer->examined, &answer->trials);
+}
+
+static inline uint32_t ifc_session_report(ifc_session *session, uint32_t report) {
+    return ifc_report(session->session_case, &session->state, session->forwarded, session->last, session->handling, report);
+}
 
 #ifdef __cplusplus
 }
