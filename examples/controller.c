@@ -1,0 +1,152 @@
+/* The integration to copy: how a controller takes one request through its application servers. The part to keep is between the
+ * two rules; forward, tell, route, reject and alarm are a controller's own and here only print. */
+#include <stddef.h>
+#include <stdint.h>
+#include <stdio.h>
+#include <string.h>
+#include "../include/ifc.h"
+
+struct profile {
+    const uint8_t *image;
+    size_t length;
+};
+
+struct call {
+    const uint8_t *request; /* as it came from the wire; the controller replaces it when a server sends it back changed */
+    size_t length;
+    uint32_t session_case, registration_type;
+    uint32_t fate; /* for the stub of forward: what will be reported */
+};
+
+static void print_name(const char *what, const uint8_t *name, uint32_t length) {
+    printf("  %s %.*s\n", what, (int)length, (const char *)name);
+}
+
+static uint32_t forward(struct call *c, const uint8_t *server, uint32_t length) {
+    print_name("to", server, length);
+    return c->fate;
+}
+
+static void tell(struct call *c, const uint8_t *server, uint32_t length) {
+    (void)c;
+    print_name("told", server, length);
+}
+
+static void route(struct call *c) {
+    (void)c;
+    printf("  routed\n");
+}
+
+static void reject(struct call *c, int status) {
+    (void)c;
+    printf("  rejected with %d\n", status);
+}
+
+static void alarm_raised(const char *why, uint32_t number, uint32_t place) {
+    printf("  alarm: %s, refusal %u, place %u\n", why, number, place);
+}
+
+/* ------------------------------------------------------------------------------------------------------------------------- */
+
+/* Every refusal ends here. None of them lets a call go on unseen. */
+static void refused(struct call *c, uint32_t number, uint32_t place) {
+    switch (number) {
+    case IFC_IMAGE_TOO_LONG:
+    case IFC_IMAGE_CUT:
+    case IFC_IMAGE_NOT_AT_END:
+    case IFC_IMAGE_FIELD:
+    case IFC_IMAGE_STRING:
+    case IFC_IMAGE_PRIORITY:
+        alarm_raised("the profile is damaged", number, place);
+        reject(c, 500);
+        return;
+    case IFC_REQUEST_UNREADABLE:
+        reject(c, 400);
+        return;
+    case IFC_NUMBER_OUT_OF_RANGE: /* case or report */
+    case IFC_TYPE_OUT_OF_RANGE:   /* registration type */
+    case IFC_WRONG_MOMENT:        /* advance without a report, report without a forward, or a session that was overwritten */
+    case IFC_WRONG_METHOD:        /* taken care of before */
+    case IFC_TOO_FEW_PLACES:      /* 64 places always suffice */
+    case IFC_NO_SUCH_CRITERION:   /* a number from another image */
+    default:
+        alarm_raised("the controller calls wrongly", number, place);
+        reject(c, 500);
+    }
+}
+
+/* A REGISTER: every server that wants to know is told. */
+static void take_registration(const struct profile *p, struct call *c) {
+    uint8_t list[64];
+    uint32_t place, count, examined, trials, start, length;
+    uint32_t refusal = ifc_list(p->image, p->length, c->request, c->length, c->session_case, c->registration_type, list,
+        sizeof list, &place, &count, &examined, &trials);
+    if (refusal) {
+        refused(c, refusal, place);
+        return;
+    }
+    for (uint32_t i = 0; i < count; i++) {
+        refusal = ifc_server(p->image, p->length, list[i], &place, &start, &length);
+        if (refusal) {
+            refused(c, refusal, place);
+            return;
+        }
+        tell(c, p->image + start, length);
+    }
+}
+
+static void take(const struct profile *p, struct call *c) {
+    ifc_session session;
+    ifc_answer answer;
+    uint32_t place, start, length;
+    uint32_t refusal = ifc_session_open(&session, c->session_case);
+    while (!refusal && session.state == IFC_READY) {
+        refusal = ifc_session_advance(&session, p->image, p->length, c->request, c->length, &answer);
+        if (refusal == IFC_WRONG_METHOD) {
+            take_registration(p, c);
+            return;
+        }
+        if (refusal) {
+            refused(c, refusal, answer.place);
+            return;
+        }
+        if (answer.outcome == IFC_ROUTE) {
+            route(c);
+            return;
+        }
+        refusal = ifc_server(p->image, p->length, answer.criterion, &place, &start, &length);
+        if (refusal) break;
+        /* c->request is now as the server sent it back, if it did */
+        refusal = ifc_session_report(&session, forward(c, p->image + start, length));
+    }
+    if (refusal) refused(c, refusal, 0);
+    else if (session.state == IFC_RELEASED) reject(c, 408); /* ended: the server has answered, nothing is left to do */
+}
+
+/* ------------------------------------------------------------------------------------------------------------------------- */
+
+/* Document 01's example: one criterion, no trigger, server sip:a, terminated. */
+static const uint8_t image[31] = {1, 0, 1, 0, 5, 's', 'i', 'p', ':', 'a', 0, 0, 0, 0, 0, 1,
+    0, 0, 0, 5, 2, 2, 0, 0, 0, 0, 0, 0, 1, 0xFF, 0xFF};
+
+static const char invite[] = "INVITE sip:b SIP/2.0\r\nFrom: <sip:c>\r\n\r\n";
+static const char registers[] = "REGISTER sip:b SIP/2.0\r\nFrom: <sip:c>\r\n\r\n";
+
+static void show(const char *title, size_t image_len, const char *request, uint32_t session_case, uint32_t fate) {
+    struct profile p = {image, image_len};
+    struct call c = {(const uint8_t *)request, strlen(request), session_case, IFC_INITIAL_REGISTRATION, fate};
+    printf("%s\n", title);
+    take(&p, &c);
+}
+
+int main(void) {
+    show("the server sends the call back", sizeof image, invite, IFC_ORIGINATING, IFC_RETURNED);
+    show("the server is not reached", sizeof image, invite, IFC_ORIGINATING, IFC_UNREACHABLE);
+    show("the server answers", sizeof image, invite, IFC_ORIGINATING, IFC_FINAL_RESPONSE);
+    show("a registration", sizeof image, registers, IFC_ORIGINATING, IFC_RETURNED);
+    show("no SIP", sizeof image, "hello", IFC_ORIGINATING, IFC_RETURNED);
+    show("a profile cut short", sizeof image - 1, invite, IFC_ORIGINATING, IFC_RETURNED);
+    show("a wrong session case", sizeof image, invite, 4, IFC_RETURNED);
+    show("a wrong report", sizeof image, invite, IFC_ORIGINATING, 3);
+    return 0;
+}

@@ -1,0 +1,170 @@
+/* desk DIRECTORY: the sample desk. Takes the requests in DIRECTORY through the desk's profile and prints each step.
+ *
+ * The desk has three servers. The recorder takes every call with sound and every message of a desk, and learns of its first
+ * registration; without the recorder a call must not go on. Billing takes calls to other houses. Voicemail takes calls to a desk
+ * and learns when one comes and goes. */
+#include <stddef.h>
+#include <stdint.h>
+#include <stdio.h>
+#include <stdlib.h>
+#include <string.h>
+#include "../include/ifc.h"
+#include "image.h"
+
+enum { BILLING, RECORDER, VOICEMAIL }; /* numbers of the criteria, in the order of the image */
+
+static uint8_t image[IMAGE_MOST];
+static size_t image_len;
+
+static void stop(const char *why) {
+    fprintf(stderr, "desk: %s\n", why);
+    exit(2);
+}
+
+/* ---- the profile */
+
+static void method(struct image_builder *b, const char *name, int set, int group) {
+    image_row(b, (struct image_row){.kind = ROW_METHOD, .first = name, .set = set, .group = group});
+}
+
+static void desk_profile(int recorder_handling) {
+    static struct image_builder b;
+    image_begin(&b);
+
+    /* billing, every group must hold: an INVITE, and no To of this house */
+    method(&b, "INVITE", 0, 0);
+    image_row(&b, (struct image_row){.negated = 1, .kind = ROW_HEADER, .first = "^To$", .content = "@desk\\.example", .group = 1});
+    image_criterion(&b, (struct image_criterion){.priority = 20, .part = PART_REGISTERED, .form = FORM_CNF,
+        .server = "sip:billing@desk.example", .handling = HANDLING_CONTINUED});
+
+    /* the recorder, one group must hold: an INVITE with sound, a MESSAGE, a first REGISTER; each only From a desk */
+    method(&b, "INVITE", 0, 0);
+    image_row(&b, (struct image_row){.kind = ROW_LINE, .first = "m", .content = "^audio ", .group = 0});
+    method(&b, "MESSAGE", 0, 1);
+    method(&b, "REGISTER", INITIAL, 2);
+    image_row(&b, (struct image_row){.kind = ROW_HEADER, .first = "^From$", .content = "<sip:desk[0-9]*@desk\\.example>"});
+    image_also(&b, 1);
+    image_also(&b, 2);
+    image_criterion(&b, (struct image_criterion){.priority = 10, .part = PART_REGISTERED, .form = FORM_DNF,
+        .server = "sip:recorder@desk.example", .handling = recorder_handling, .information = "retain=7y"});
+
+    /* voicemail, one group must hold: a first or last REGISTER, an INVITE to the desk (case 1) */
+    method(&b, "REGISTER", INITIAL | DEREGISTRATION, 0);
+    image_row(&b, (struct image_row){.kind = ROW_CASE, .session_case = IFC_TERMINATING_REGISTERED, .group = 1});
+    method(&b, "INVITE", 0, 1);
+    image_criterion(&b, (struct image_criterion){.priority = 30, .part = PART_ABSENT, .form = FORM_DNF,
+        .server = "sip:voicemail@desk.example", .handling = HANDLING_ABSENT});
+
+    uint32_t place;
+    image_len = image_end(&b, image, sizeof image);
+    if (ifc_check(image, image_len, &place) != IFC_ACCEPTED) stop("the desk's profile has a fault");
+}
+
+/* ---- requests */
+
+struct request {
+    uint8_t at[65536];
+    size_t length;
+};
+
+static const char *directory;
+
+static const struct request *request(const char *name) {
+    static struct request r;
+    char path[1024];
+    snprintf(path, sizeof path, "%s/%s", directory, name);
+    FILE *in = fopen(path, "rb");
+    if (!in) stop("cannot open a request");
+    r.length = fread(r.at, 1, sizeof r.at, in);
+    fclose(in);
+    return &r;
+}
+
+/* ---- steps */
+
+static void print_server(uint32_t criterion) {
+    uint32_t place, start, length, present;
+    if (ifc_server(image, image_len, criterion, &place, &start, &length)) stop("no server");
+    printf("%.*s", (int)length, (const char *)image + start);
+    if (ifc_information(image, image_len, criterion, &place, &present, &start, &length)) stop("no criterion");
+    if (present) printf(" (%.*s)", (int)length, (const char *)image + start);
+}
+
+static void advance(ifc_session *session, const char *name, ifc_answer *answer) {
+    const struct request *r = request(name);
+    uint32_t refusal = ifc_session_advance(session, image, image_len, r->at, r->length, answer);
+    if (refusal) {
+        printf("  %s: refused with %u\n", name, refusal);
+    } else if (answer->outcome == IFC_FORWARD) {
+        printf("  %s: forward to criterion %u, priority %u, ", name, answer->criterion, answer->priority);
+        print_server(answer->criterion);
+        printf("; examined %u, trials %u\n", answer->examined, answer->trials);
+    } else {
+        printf("  %s: route normally; examined %u, trials %u\n", name, answer->examined, answer->trials);
+    }
+}
+
+static void report(ifc_session *session, uint32_t what) {
+    static const char *const said[] = {"the server sent it back", "the server was not reached", "the server answered it"};
+    static const char *const states[] = {"ready", "waiting", "finished", "released", "ended"};
+    if (ifc_session_report(session, what)) stop("a report was refused");
+    printf("  %s: session %s\n", said[what], states[session->state]);
+}
+
+/* One call from the desk. `next` is the request as the first server sends it back. */
+static void call(const char *title, const char *first, const char *next, uint32_t of_recorder) {
+    ifc_session session;
+    ifc_answer answer;
+    int passed = 0, asked = 0;
+    printf("%s\n", title);
+    if (ifc_session_open(&session, IFC_ORIGINATING)) stop("no session");
+    for (const char *name = first; session.state == IFC_READY; name = next) {
+        advance(&session, name, &answer);
+        if (answer.outcome != IFC_FORWARD) break;
+        int recorder = answer.criterion == RECORDER;
+        uint32_t what = recorder ? of_recorder : IFC_RETURNED;
+        report(&session, what);
+        asked |= recorder;
+        passed |= recorder && what == IFC_RETURNED;
+    }
+    if (passed) printf("In plain words: it passed the recorder.\n\n");
+    else if (session.state == IFC_RELEASED) printf("In plain words: it did not pass the recorder, and went nowhere else.\n\n");
+    else if (asked) printf("In plain words: it did not pass the recorder, and went on without it.\n\n");
+    else printf("In plain words: the recorder was not asked for.\n\n");
+}
+
+static void registration(const char *title, uint32_t type) {
+    const struct request *r = request("register.sip");
+    uint8_t list[64];
+    uint32_t place, count, examined, trials;
+    printf("%s\n", title);
+    uint32_t refusal = ifc_list(image, image_len, r->at, r->length, IFC_ORIGINATING, type, list, sizeof list, &place, &count,
+        &examined, &trials);
+    if (refusal) {
+        printf("  register.sip: refused with %u\n\n", refusal);
+        return;
+    }
+    printf("  register.sip: %u to be told; examined %u, trials %u\n", count, examined, trials);
+    for (uint32_t i = 0; i < count; i++) {
+        printf("  criterion %u, ", list[i]);
+        print_server(list[i]);
+        printf("\n");
+    }
+    printf("\n");
+}
+
+int main(int argc, char **argv) {
+    if (argc != 2) stop("desk DIRECTORY");
+    directory = argv[1];
+    desk_profile(HANDLING_TERMINATED);
+    call("A call to another house", "invite.sip", "invite-recorded.sip", IFC_RETURNED);
+    call("The same call; the recorder cannot be reached, its default handling is terminated", "invite.sip", "invite.sip",
+        IFC_UNREACHABLE);
+    call("A message", "message.sip", "message.sip", IFC_RETURNED);
+    registration("The desk registers for the first time", IFC_INITIAL_REGISTRATION);
+    registration("The desk registers again", IFC_REREGISTRATION);
+    desk_profile(HANDLING_CONTINUED);
+    call("The call again; the recorder cannot be reached, its default handling is continued", "invite.sip", "invite.sip",
+        IFC_UNREACHABLE);
+    return 0;
+}
