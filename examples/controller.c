@@ -115,7 +115,10 @@ static void take(const struct profile *p, struct call *c) {
             return;
         }
         refusal = ifc_server(p->image, p->length, answer.criterion, &place, &start, &length);
-        if (refusal) break;
+        if (refusal) {
+            refused(c, refusal, place);
+            return;
+        }
         /* c->request is now as the server sent it back, if it did */
         refusal = ifc_session_report(&session, forward(c, p->image + start, length));
     }

@@ -1,0 +1,255 @@
+/* garbage [SEED COUNT]: calls in any order on whatever comes: bytes drawn at random, samples with bytes changed, samples cut short,
+ * session numbers that no session has. Each lent part lies against an inaccessible page.
+ *
+ * What must hold of every call, whatever it is given: a refusal is one the call may give; on a refusal the session's numbers are
+ * what they were, counts are 0, the list is untouched, and only an image fault has a place; an answer keeps to its bounds; image
+ * and request are not changed. At the end every refusal, forward and route must have been seen. */
+#include <stddef.h>
+#include <stdint.h>
+#include <stdio.h>
+#include <stdlib.h>
+#include <string.h>
+#include <sys/mman.h>
+#include "sample.h"
+
+enum { PAGE = 4096, ROOM = 69632, PLACES = 80 };
+
+static uint32_t call_number;
+
+static void must(int holds, const char *what) {
+    if (holds) return;
+    printf("garbage: call %u: %s\n", call_number, what);
+    exit(1);
+}
+
+/* ---- numbers that look random and are the same everywhere */
+
+static uint64_t seed = 1;
+
+static uint32_t draw(uint32_t below) {
+    seed ^= seed << 13, seed ^= seed >> 7, seed ^= seed << 17;
+    return (uint32_t)(seed >> 32) % below;
+}
+
+/* Mostly small, sometimes anything. */
+static uint32_t draw_number(uint32_t below) { return draw(8) ? draw(below) : (uint32_t)draw(65536) << 16 | draw(65536); }
+
+/* ---- lent parts */
+
+struct part {
+    uint8_t *room, *at, copy[ROOM];
+    size_t length;
+};
+
+static struct part image, request, list;
+
+static uint8_t *room(void) {
+    uint8_t *all = mmap(NULL, ROOM + 2 * PAGE, PROT_READ | PROT_WRITE, MAP_PRIVATE | MAP_ANONYMOUS, -1, 0);
+    if (all == MAP_FAILED || mprotect(all, PAGE, PROT_NONE) || mprotect(all + PAGE + ROOM, PAGE, PROT_NONE)) {
+        fprintf(stderr, "garbage: no memory\n");
+        exit(2);
+    }
+    return all + PAGE;
+}
+
+/* Lays the copy at one end of its room. A part of no bytes may be NULL. */
+static void lay(struct part *p) {
+    p->at = draw(2) ? p->room : p->room + ROOM - p->length;
+    if (p->length == 0 && draw(2)) p->at = NULL;
+    else memcpy(p->at, p->copy, p->length);
+}
+
+static int untouched(const struct part *p) { return p->length == 0 || memcmp(p->at, p->copy, p->length) == 0; }
+
+static void draw_bytes(struct part *p, uint32_t most) {
+    p->length = draw(most + 1);
+    for (size_t i = 0; i < p->length; i++) p->copy[i] = (uint8_t)draw(256);
+}
+
+/* Bytes changed, a cut, or more bytes at the end. */
+static void damage(struct part *p, uint32_t most) {
+    for (uint32_t i = draw(3); i > 0 && p->length > 0; i--) p->copy[draw((uint32_t)p->length)] = (uint8_t)draw(draw(2) ? 256 : 8);
+    if (draw(8) == 0 && p->length > 0) p->length = draw((uint32_t)p->length);
+    if (draw(16) == 0)
+        for (uint32_t i = draw(4); i > 0 && p->length < most; i--) p->copy[p->length++] = (uint8_t)draw(256);
+}
+
+/* The last criterion gets the priority of the first. */
+static void repeat_priority(struct part *p) {
+    size_t first = p->length - 8 * 15, last = p->length - 15;
+    memcpy(p->copy + last, p->copy + first, 4);
+}
+
+static void draw_image(void) {
+    uint32_t how = draw(12);
+    if (how == 0) {
+        draw_bytes(&image, draw(8) ? 200 : 33000);
+        if (image.length > 0 && draw(2)) image.copy[0] = 1;
+    } else if (how == 1) {
+        image.length = 32769 + draw(2), memset(image.copy, 0, image.length);
+    } else {
+        image.length = sample_image(image.copy, IMAGE_MOST);
+        if (how == 2) repeat_priority(&image);
+        else if (how < 6) damage(&image, 32768);
+    }
+    lay(&image);
+}
+
+static void draw_request(void) {
+    uint32_t how = draw(12);
+    if (how == 0) {
+        draw_bytes(&request, draw(8) ? 200 : ROOM);
+    } else {
+        request.length = sample_request(draw(SAMPLE_REQUESTS), (char *)request.copy, SAMPLE_ROOM);
+        if (how == 1) request.length = 65536 + draw(2);
+        else if (how < 4) damage(&request, ROOM);
+    }
+    lay(&request);
+}
+
+static void draw_list(void) {
+    list.length = draw(draw(2) ? 4 : PLACES);
+    for (size_t i = 0; i < list.length; i++) list.copy[i] = (uint8_t)(192 + draw(64));
+    lay(&list);
+}
+
+/* ---- calls */
+
+static uint32_t refusals[14], forwards, routes, listed;
+static ifc_session session;
+
+static void seen(uint32_t refusal, const char *may) {
+    must(refusal < 14 && may[refusal] == 'y', "a refusal that this call does not give");
+    refusals[refusal]++;
+}
+
+static int image_fault(uint32_t refusal) { return refusal >= 1 && refusal <= 6; }
+
+static void place_holds(uint32_t refusal, uint32_t place) {
+    must(image_fault(refusal) ? place <= image.length : place == 0, "a place where none is, or outside the image");
+    must(untouched(&image), "the image was changed");
+}
+
+static int same_session(const ifc_session *a, const ifc_session *b) { return memcmp(a, b, sizeof *a) == 0; }
+
+static void check(void) {
+    uint32_t place = 7;
+    uint32_t refusal = ifc_check(image.at, image.length, &place);
+    seen(refusal, "yyyyyyy.......");
+    place_holds(refusal, place);
+}
+
+static void open_one(void) {
+    uint32_t wanted = draw_number(5);
+    session.session_case = session.state = session.forwarded = session.last = session.handling = 7;
+    uint32_t refusal = ifc_session_open(&session, wanted);
+    seen(refusal, "y.......y.....");
+    must(session.forwarded == 0 && session.last == 0 && session.handling == 0, "an opened session has forwarded");
+    must(refusal == (wanted > 3 ? 8 : 0), "a case is judged wrongly");
+    must(session.session_case == (refusal ? 0 : wanted) && session.state == (refusal ? IFC_FINISHED : IFC_READY), "an opening");
+}
+
+static void wild_session(void) {
+    session.session_case = draw_number(5), session.state = draw_number(6), session.forwarded = draw_number(3);
+    session.last = draw_number(100), session.handling = draw_number(3);
+}
+
+static void advance(void) {
+    ifc_session before = session;
+    ifc_answer a = {7, 7, 7, 7, 7, 7};
+    uint32_t refusal = ifc_session_advance(&session, image.at, image.length, request.at, request.length, &a);
+    seen(refusal, "yyyyyyyy..yy..");
+    place_holds(refusal, a.place);
+    must(untouched(&request), "the request was changed");
+    if (refusal) {
+        must(same_session(&session, &before), "a refused advance changed the session");
+        must(!a.outcome && !a.criterion && !a.priority && !a.examined && !a.trials, "a refused advance counts");
+        return;
+    }
+    must(before.state == IFC_READY && before.session_case <= 3, "an advance at the wrong moment");
+    must(request.length <= 65535, "a request that is too long");
+    must(a.examined <= 64, "more examined than there can be");
+    if (a.outcome == IFC_FORWARD) {
+        ifc_session right = {before.session_case, IFC_WAITING, 1, a.priority, session.handling};
+        must(same_session(&session, &right) && session.handling <= 1, "a forward's session");
+        must(a.criterion < 64 && a.examined > 0, "a forward's numbers");
+        must(!before.forwarded || a.priority > before.last, "a forward back");
+        forwards++;
+    } else {
+        before.state = IFC_FINISHED;
+        must(a.outcome == IFC_ROUTE && same_session(&session, &before), "a route's session");
+        must(a.criterion == 0 && a.priority == 0, "a route's numbers");
+        routes++;
+    }
+}
+
+static void report(void) {
+    ifc_session before = session;
+    uint32_t what = draw_number(4), refusal = ifc_session_report(&session, what);
+    seen(refusal, "y.......y.y...");
+    if (refusal == 0) {
+        must(before.state == IFC_WAITING && what <= 2, "a report at the wrong moment");
+        must(session.state == (what == 2 ? IFC_ENDED : what == 1 && before.handling ? IFC_RELEASED : IFC_READY), "a report's state");
+        before.state = session.state;
+    }
+    must(same_session(&session, &before), "a report changed more than the state, or was refused and changed it");
+}
+
+static void list_all(void) {
+    uint32_t place = 7, count = 7, examined = 7, trials = 7, refusal;
+    uint64_t told = 0;
+    refusal = ifc_list(image.at, image.length, request.at, request.length, draw_number(4), draw_number(3), list.at, list.length,
+        &place, &count, &examined, &trials);
+    seen(refusal, "yyyyyyyyyy.yy.");
+    place_holds(refusal, place);
+    must(untouched(&request), "the request was changed");
+    if (refusal) {
+        must(!count && !examined && !trials, "a refused listing counts");
+        must(untouched(&list), "a refused listing wrote to the list");
+        return;
+    }
+    must(request.length <= 65535, "a request that is too long");
+    must(count <= list.length && count <= examined && examined <= 64, "a listing's numbers");
+    for (uint32_t i = 0; i < count; i++) {
+        must(list.at[i] < examined && !(told >> list.at[i] & 1), "a number that is no criterion, or twice");
+        told |= (uint64_t)1 << list.at[i];
+    }
+    for (size_t i = count; i < list.length; i++) must(list.at[i] == list.copy[i], "the rest of the list was touched");
+    listed += count;
+}
+
+static void lookup(void) {
+    uint32_t criterion = draw_number(10), place = 7, start = 7, length = 7, present = 1, refusal;
+    if (draw(2)) refusal = ifc_server(image.at, image.length, criterion, &place, &start, &length);
+    else refusal = ifc_information(image.at, image.length, criterion, &place, &present, &start, &length);
+    seen(refusal, "yyyyyyy......y");
+    place_holds(refusal, place);
+    must(present <= 1 && (size_t)start + length <= image.length, "a part outside the image");
+    if (refusal || !present) must(start == 0 && length == 0, "a part where there is none");
+}
+
+int main(int argc, char **argv) {
+    uint32_t count = argc > 2 ? (uint32_t)strtoul(argv[2], NULL, 10) : 20000;
+    if (argc > 1) seed = strtoul(argv[1], NULL, 10) * 2 + 1;
+    image.room = room(), request.room = room(), list.room = room();
+    ifc_session_open(&session, 0);
+    draw_image(), draw_request(), draw_list();
+    for (call_number = 0; call_number < count; call_number++) {
+        if (draw(4) == 0) draw_image();
+        if (draw(3) == 0) draw_request();
+        if (session.state > IFC_WAITING && draw(2)) open_one();
+        switch (draw(16)) {
+        case 0: check(); break;
+        case 1: open_one(); break;
+        case 2: wild_session(); break;
+        case 3: case 4: case 5: lookup(); break;
+        case 6: case 7: case 8: draw_list(), list_all(); break;
+        case 9: case 10: case 11: report(); break;
+        default: advance();
+        }
+    }
+    for (int i = 0; i < 14; i++) must(refusals[i] > 0, "some refusal was never seen: more calls are needed");
+    must(forwards > 0 && routes > 0 && listed > 0, "some answer was never seen: more calls are needed");
+    printf("garbage: ok (%u calls, %u forwards, %u routes, %u listed)\n", count, forwards, routes, listed);
+    return 0;
+}
