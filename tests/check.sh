@@ -1,17 +1,52 @@
 #!/bin/sh
-# The library from C: document 01's worked images, then the fixed cases of the second program and COUNT random ones from SEED.
+# The library from C: the header, the archive's names, document 01's worked images, the examples, threads, stack, garbage; then the
+# fixed cases of the second program and COUNT random ones from SEED, also through the plain C that the bench compares with.
 # check.sh [SEED COUNT]
 set -eu
 cd "$(dirname "$0")/.."
 seed=${1:-1} count=${2:-20000}
-out=target/tests
+out=target/tests lib=target/staticlib/libifc.a plain='-include bench/as_plain.h'
 mkdir -p "$out"
+
+# Whether the archive has ifc_advance and ifc_list. While it has not, what needs them runs over the plain C.
+all=no
+
+# build NAME FLAGS FILE..
+build() {
+    program=$1 with=$2
+    shift 2
+    CFLAGS_X86="-O2 -Wall -Wextra -Werror $with" sh tests/cc-x86.sh build "$out/$program" "$@"
+}
+run() {
+    program=$1
+    shift
+    sh tests/cc-x86.sh run "$out/$program" "$@"
+}
+compare() {
+    run "$1" "$out/made" "$out/kept" "$out/answers"
+    "$second" compare "$out/kept" "$out/answers"
+}
+
 rt staticlib ifc >"$out/staticlib.log" 2>&1 || { cat "$out/staticlib.log"; exit 1; }
 cargo build --release --offline --quiet --manifest-path second/Cargo.toml --target-dir "$out/second"
 second=$out/second/release/second
-sh tests/cc-x86.sh build "$out/worked" tests/worked.c target/staticlib/libifc.a
-sh tests/cc-x86.sh run "$out/worked"
-sh tests/cc-x86.sh build "$out/cases" tests/cases.c target/staticlib/libifc.a
+if [ "$all" = yes ]; then
+    calls=-DIFC_ALL flags='' over=$lib
+    sh tests/symbols.sh "$lib"
+else
+    calls='' flags=$plain over=bench/plain.c
+fi
+
+sh tests/cc-x86.sh judge tests/header.c
+build worked "$calls" tests/worked.c "$lib"
+run worked
+sh tests/examples.sh "$out" "$flags" "$over"
+for name in threads stack garbage; do
+    build "$name" "$flags" "tests/$name.c" "$over"
+    run "$name"
+done
 "$second" make "$seed" "$count" >"$out/made"
-sh tests/cc-x86.sh run "$out/cases" "$out/made" "$out/kept" "$out/answers"
-"$second" compare "$out/kept" "$out/answers"
+build cases "$calls" tests/cases.c "$lib"
+compare cases
+build cases_plain "-DIFC_ALL $plain" tests/cases.c bench/plain.c
+compare cases_plain

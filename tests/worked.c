@@ -1,4 +1,5 @@
-/* The two images that document 01 writes out, and what it says of them. Every number here is read off that page. */
+/* The two images that document 01 writes out, and what it says of them. Every number here is read off that page.
+ * -DIFC_ALL: the library has advance and list. */
 #include <stddef.h>
 #include <stdint.h>
 #include <stdio.h>
@@ -18,6 +19,42 @@ static void is(const char *what, uint32_t got, uint32_t right) {
     wrong = 1;
 }
 
+#ifdef IFC_ALL
+static const char invite[] = "INVITE sip:b SIP/2.0\r\n\r\n", registers[] = "REGISTER sip:b SIP/2.0\r\n\r\n";
+
+static void walks(void) {
+    ifc_session session;
+    ifc_answer answer;
+    uint8_t list[3] = {9, 9, 9};
+    uint32_t place = 9, count = 9, examined = 9, trials = 9;
+    const uint8_t *request = (const uint8_t *)invite;
+    size_t length = sizeof invite - 1;
+    is("an opening", ifc_session_open(&session, 0), 0);
+    is("an advance over the empty profile", ifc_session_advance(&session, empty, sizeof empty, request, length, &answer), 0);
+    is("its outcome, a route", answer.outcome, IFC_ROUTE);
+    is("what it examined", answer.examined, 0);
+    is("the session after it", session.state, IFC_FINISHED);
+    is("an opening", ifc_session_open(&session, 3), 0);
+    is("an advance over the whole one", ifc_session_advance(&session, one, sizeof one, request, length, &answer), 0);
+    is("its outcome, a forward", answer.outcome, IFC_FORWARD);
+    is("its criterion", answer.criterion, 0);
+    is("its priority", answer.priority, 5);
+    is("what it examined", answer.examined, 1);
+    is("what it tried", answer.trials, 0);
+    is("an advance while waiting", ifc_session_advance(&session, one, sizeof one, request, length, &answer), 10);
+    is("the report that the server was not reached", ifc_session_report(&session, IFC_UNREACHABLE), 0);
+    is("the session, terminated", session.state, IFC_RELEASED);
+    is("a listing of an INVITE",
+        ifc_list(one, sizeof one, request, length, 0, 0, list, sizeof list, &place, &count, &examined, &trials), 11);
+    is("the list after it", list[0], 9);
+    request = (const uint8_t *)registers, length = sizeof registers - 1;
+    is("a listing", ifc_list(one, sizeof one, request, length, 0, 2, list, sizeof list, &place, &count, &examined, &trials), 0);
+    is("how many it lists", count, 1);
+    is("the first place", list[0], 0);
+    is("the second, untouched", list[1], 9);
+}
+#endif
+
 int main(void) {
     uint32_t place = 9, start = 9, length = 9, present = 9;
     is("the empty profile's fault", ifc_check(empty, sizeof empty, &place), 0);
@@ -34,6 +71,9 @@ int main(void) {
     is("the information's lookup", ifc_information(one, sizeof one, 0, &place, &present, &start, &length), 0);
     is("its presence", present, 0);
     is("no second criterion", ifc_server(one, sizeof one, 1, &place, &start, &length), 13);
+#ifdef IFC_ALL
+    walks();
+#endif
     if (!wrong) puts("worked: ok");
     return wrong;
 }
