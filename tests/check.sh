@@ -5,11 +5,8 @@
 set -eu
 cd "$(dirname "$0")/.."
 seed=${1:-1} count=${2:-20000}
-out=target/tests lib=target/staticlib/libifc.a plain='-include bench/as_plain.h'
-mkdir -p "$out"
-
-# Whether the archive has ifc_advance and ifc_list. While it has not, what needs them runs over the plain C.
-all=no
+out=target/tests
+. tests/over.sh
 
 # build NAME FLAGS FILE..
 build() {
@@ -27,16 +24,10 @@ compare() {
     "$second" compare "$out/kept" "$out/answers"
 }
 
-rt staticlib ifc >"$out/staticlib.log" 2>&1 || { cat "$out/staticlib.log"; exit 1; }
+make_library
 cargo build --release --offline --quiet --manifest-path second/Cargo.toml --target-dir "$out/second"
 second=$out/second/release/second
-if [ "$all" = yes ]; then
-    calls=-DIFC_ALL flags='' over=$lib
-    sh tests/symbols.sh "$lib"
-else
-    calls='' flags=$plain over=bench/plain.c
-fi
-
+if [ "$all" = yes ]; then sh tests/symbols.sh "$lib"; fi
 sh tests/cc-x86.sh judge tests/header.c
 build worked "$calls" tests/worked.c "$lib"
 run worked
