@@ -136,8 +136,11 @@ static int judging(void) {
     return ifc_check(image, image_len, &place) == 0 ? (int)found.criterion : -1;
 }
 
-static int by_regcomp(void) { return peer_advance(request, request_len, 0, 0); }
-static int by_regexec(void) { return peer_advance(request, request_len, 0, 1); }
+static int by_regcomp(void) { return peer_advance(request, request_len, 0, PEER_REGCOMP); }
+static int by_regexec(void) { return peer_advance(request, request_len, 0, PEER_REGEXEC); }
+#ifdef WITH_PCRE2
+static int by_pcre2(void) { return peer_advance(request, request_len, 0, PEER_PCRE2); }
+#endif
 
 /* ---- time: the processor's for this program, the best of several rounds */
 
@@ -170,6 +173,9 @@ static void side_by_side(void) {
         {"(a) regcomp and regexec at each evaluation", by_regcomp},
         {"(b) regexec, patterns compiled before", by_regexec},
         {"(c) plain C of our algorithm", by_plain},
+#ifdef WITH_PCRE2
+        {"(d) PCRE2, patterns compiled to code before", by_pcre2},
+#endif
     };
     enum { SIDES = sizeof sides / sizeof *sides };
     double best[SIDES];
@@ -190,8 +196,8 @@ static void side_by_side(void) {
         (unsigned)request_len, right, found.examined, found.trials);
     printf("  %-46s %10s %14s\n", "", "us", "times ifc's");
     for (int i = 0; i < SIDES; i++) printf("  %-46s %10.2f %14.2f\n", sides[i].name, best[i] / 1e3, best[i] / best[0]);
-    printf("  The library and (c) judge the image at each advance; (a) and (b) have it parsed before, do not judge it, and stop at\n"
-           "  the first value that matches.\n\n");
+    printf("  The library and (c) judge the image at each advance and try every row on every part. The others have it parsed\n"
+           "  before, do not judge it, and stop at the first part that matches.\n\n");
 }
 
 /* ---- growth: what is doubled, the rest kept */

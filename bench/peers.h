@@ -1,15 +1,20 @@
-/* Two evaluators as session controllers commonly have them, for the bench: the profile is parsed into structs once, patterns are
- * glibc's regular expressions. */
+/* Evaluators as session controllers commonly have them, for the bench: the profile is parsed into structs once, patterns are
+ * regular expressions of glibc or, with -DWITH_PCRE2, of PCRE2. */
 #ifndef PEERS_H
 #define PEERS_H
 #include <stddef.h>
 #include <stdint.h>
 
-/* Parses an image that ifc_check accepts; compiles its patterns, too. */
+enum peer_way {
+    PEER_REGCOMP, /* glibc, each pattern compiled at each evaluation of its row */
+    PEER_REGEXEC, /* glibc, compiled when the profile is loaded */
+    PEER_PCRE2    /* PCRE2 with its just-in-time compiler, compiled when the profile is loaded */
+};
+
+/* Parses an image that ifc_check accepts, and compiles its patterns. */
 void peer_load(const uint8_t *image, size_t length);
 
-/* The number of the first criterion that fits, by rising priority, -1 if none does. `compiled`: with the patterns compiled by
- * peer_load; otherwise each is compiled at each evaluation of its row. */
-int peer_advance(const uint8_t *request, size_t length, uint32_t session_case, int compiled);
+/* The number of the first criterion that fits, by rising priority, -1 if none does. */
+int peer_advance(const uint8_t *request, size_t length, uint32_t session_case, enum peer_way way);
 
 #endif
