@@ -1,4 +1,5 @@
-/* One typical advance beside its peers, and how an advance grows with what it is given.
+/* advance         one typical advance beside its peers, and how an advance grows with what it is given
+ * advance worst   the dearest advance that the limits allow, once: it takes long
  *
  * Typical: an INVITE of 1,076 bytes with 15 fields and 13 lines of SDP; ten criteria of four rows each (method, presence of a
  * header, content of a header, line of SDP). In the first nine the last row fails, so that all forty rows are judged. */
@@ -246,12 +247,15 @@ static void body(uint32_t n) {
 }
 
 /* The dearest pattern: sixty positions, all live at each byte. */
-static void dense(uint32_t n) {
-    char pattern[256];
+static const char *dense_pattern(void) {
+    static char pattern[256];
     strcpy(pattern, "^");
     for (int i = 0; i < 60; i++) strcat(pattern, "a*");
-    strcat(pattern, "$");
-    one_row("^X$", pattern);
+    return strcat(pattern, "$");
+}
+
+static void dense(uint32_t n) {
+    one_row("^X$", dense_pattern());
     begin_request();
     put("X: b");
     for (uint32_t i = 0; i < n; i++) put("aaaaaaaaaaaaaaaa");
@@ -299,7 +303,27 @@ static void growth(const char *name, void (*make)(uint32_t), uint32_t from, uint
     }
 }
 
-int main(void) {
+/* 2,048 rows of the dearest pattern, over one value that fills the request. */
+static void worst(void) {
+    image_begin(&builder);
+    for (uint32_t i = 0; i < 2048; i++) {
+        header_row("X", dense_pattern(), 0);
+        if (i % 32 == 31) criterion(i);
+    }
+    build();
+    begin_request();
+    put("X: b");
+    while (request_len < 65535 - 4) put("a");
+    put("\r\n\r\n");
+    printf("The dearest advance: image of %u bytes, request of %u: %.1f s\n", (unsigned)image_len, (unsigned)request_len,
+        once(by_library, 1) / 1e9);
+}
+
+int main(int argc, char **argv) {
+    if (argc > 1 && strcmp(argv[1], "worst") == 0) {
+        worst();
+        return 0;
+    }
     side_by_side();
     growth("fields", fields, 128, 4096);
     growth("values", values, 256, 8192);

@@ -4,7 +4,7 @@
  * allocates nothing. What it answers is settled by document 01; sentences in quotes here are from there.
  *
  * Profile image   the subscriber's filter criteria in the house format, at most 32,768 bytes. Every call that takes an image
- *                 judges all of it first, so an image need not be checked before.
+ *                 judges the whole of it before using it, so it need not be checked before.
  * Request         one SIP request as it came from the wire: start line, fields, empty line, body; at most 65,535 bytes.
  * Session         five numbers that the caller keeps between calls: see ifc_session.
  * Criterion       named by its number in the image, counted from 0, not by its priority.
