@@ -1,5 +1,6 @@
-/* advance         one typical advance beside its peers, and how an advance grows with what it is given
- * advance worst   the dearest advance that the limits allow, once: it takes long
+/* advance                    one typical advance beside its peers, and how an advance grows with what it is given
+ * advance worst              the dearest advance that the limits allow, once: it takes long
+ * advance count SIDE TIMES   the typical advance by one side, for counting instructions from outside
  *
  * Typical: an INVITE of 1,076 bytes with 15 fields and 13 lines of SDP; ten criteria of four rows each (method, presence of a
  * header, content of a header, line of SDP). In the first nine the last row fails, so that all forty rows are judged. */
@@ -164,25 +165,30 @@ static uint32_t times_for(int (*side)(void)) {
     return times;
 }
 
-static void side_by_side(void) {
-    static const struct {
-        const char *name;
-        int (*side)(void);
-    } sides[] = {
-        {"ifc_advance", by_library},
-        {"    of which judging the image (ifc_check)", judging},
-        {"(a) regcomp and regexec at each evaluation", by_regcomp},
-        {"(b) regexec, patterns compiled before", by_regexec},
-        {"(c) plain C of our algorithm", by_plain},
+static const struct {
+    const char *name;
+    int (*side)(void);
+} sides[] = {
+    {"ifc_advance", by_library},
+    {"    of which judging the image (ifc_check)", judging},
+    {"(a) regcomp and regexec at each evaluation", by_regcomp},
+    {"(b) regexec, patterns compiled before", by_regexec},
+    {"(c) plain C of our algorithm", by_plain},
 #ifdef WITH_PCRE2
-        {"(d) PCRE2, patterns compiled to code before", by_pcre2},
+    {"(d) PCRE2, patterns compiled to code before", by_pcre2},
 #endif
-    };
-    enum { SIDES = sizeof sides / sizeof *sides };
-    double best[SIDES];
-    uint32_t times[SIDES];
+};
+enum { SIDES = sizeof sides / sizeof *sides };
+
+static void typical_case(void) {
     typical_profile(), typical_request();
     peer_load(image, image_len);
+}
+
+static void side_by_side(void) {
+    double best[SIDES];
+    uint32_t times[SIDES];
+    typical_case();
     int right = by_library();
     for (int i = 0; i < SIDES; i++) {
         if (sides[i].side() != right) stop("two sides find different criteria");
@@ -319,9 +325,21 @@ static void worst(void) {
         once(by_library, 1) / 1e9);
 }
 
+/* Prints the side's name; nothing, if there is no such side. */
+static void count(uint32_t number, uint32_t times) {
+    typical_case();
+    if (number >= SIDES) return;
+    for (uint32_t i = 0; i < times; i++) sides[number].side();
+    printf("%s\n", sides[number].name);
+}
+
 int main(int argc, char **argv) {
     if (argc > 1 && strcmp(argv[1], "worst") == 0) {
         worst();
+        return 0;
+    }
+    if (argc > 3 && strcmp(argv[1], "count") == 0) {
+        count((uint32_t)strtoul(argv[2], NULL, 10), (uint32_t)strtoul(argv[3], NULL, 10));
         return 0;
     }
     side_by_side();
