@@ -27,17 +27,17 @@ compare() {
 make_library
 cargo build --release --offline --quiet --manifest-path second/Cargo.toml --target-dir "$out/second"
 second=$out/second/release/second
-if [ "$all" = yes ]; then sh tests/symbols.sh "$lib"; fi
+sh tests/symbols.sh "$lib"
 sh tests/cc-x86.sh judge tests/header.c
-build worked "$calls" tests/worked.c "$lib"
+build worked "" tests/worked.c "$lib"
 run worked
-sh tests/examples.sh "$out" "$flags" "$over"
+sh tests/examples.sh "$out" "$lib"
 for name in threads stack garbage; do
-    build "$name" "$flags" "tests/$name.c" "$over"
+    build "$name" "" "tests/$name.c" "$lib"
     run "$name"
 done
 "$second" make "$seed" "$count" >"$out/made"
-build cases "$calls" tests/cases.c "$lib"
+build cases "" tests/cases.c "$lib"
 compare cases
-build cases_plain "-DIFC_ALL $plain" tests/cases.c bench/plain.c
+build cases_plain "$plain" tests/cases.c bench/plain.c
 compare cases_plain

@@ -1,11 +1,11 @@
 #!/bin/sh
-# examples.sh OUT FLAGS LIBRARY..: builds the examples and holds what they print against what was worked out by hand.
+# examples.sh OUT LIBRARY..: builds the examples and holds what they print against what was worked out by hand.
 set -eu
 cd "$(dirname "$0")/.."
-out=$1 flags=$2
-shift 2
+out=$1
+shift
 for name in desk controller; do
-    CFLAGS_X86="-O2 $flags" sh tests/cc-x86.sh build "$out/$name" "examples/$name.c" "$@"
+    CFLAGS_X86=-O2 sh tests/cc-x86.sh build "$out/$name" "examples/$name.c" "$@"
     sh tests/cc-x86.sh run "$out/$name" examples >"$out/$name.out"
     grep -v '^#' "examples/$name.expected" | diff - "$out/$name.out"
 done
