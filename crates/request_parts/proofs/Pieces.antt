@@ -1,0 +1,73 @@
+-- The values of one field: the loop over the pieces, and the two ways to their number.
+use mathlib.Core.Bool.{Bool, true, false}
+use mathlib.Core.Path.{_≡_, refl, sym, ap, _∙_, subst}
+use mathlib.Core.List.{List}
+use Prim.Native.Nat.{ℕ, _+_, _-_, _≤_, _<_}
+use native.Mathlib.Omega.{arith}
+use lib.ListN.{length, take}
+use Rattle.request.specs.Places.{part, over, values-from, piece-at}
+use Rattle.request.specs.Request.{name-as-matched}
+use Rattle.request.specs.Values.{reduced, never-cut, values-of}
+use Rattle.request.specs.declared.Piece.{Piece}
+use Rattle.request.proofs.Laws.{over-inside, over-front}
+use Rattle.request.proofs.Norm.{reduced-le}
+use Rattle.request.proofs.Values.{ValueAt, value-says, values-past, values-cut, values-whole}
+
+-- the values before p are counted
+pub record Piecing (v : List ℕ) (p n : ℕ) : Type 0 where
+  pub sum : n + length (values-from v p) ≡ length (values-from v 0)
+  pub inside : p ≤ length v + 1
+  pub few : n ≤ p
+
+module _ (v : List ℕ) where
+  pub piecing-first : Piecing v 0 0
+  piecing-first = record { sum = omega arith; inside = omega arith; few = omega arith }
+
+  module _ (p : ℕ) (x : Piece) (ex : x ≡ piece-at v p) (h : p ≤ length v) where
+    said : ValueAt v p x
+    said = subst (ValueAt v p) (sym ex) (value-says v p h)
+
+    pub piece-less : length v + 1 - x .next < length v + 1 - p
+    piece-less = omega (arith, said .on, said .next-inside)
+
+    pub piecing-next : (n : ℕ) → Piecing v p n → Piecing v (x .next) (n + 1)
+    piecing-next n w = record {
+      sum = omega (arith, w .sum, ap length (said .list));
+      inside = said .next-inside;
+      few = omega (arith, w .few, said .on);
+    }
+
+  pub piecing-room : (p n : ℕ) → Piecing v p n → length v ≤ 65535 → p ≤ length v → n + 1 < 4294967296
+  piecing-room p n w short h = omega (arith, w .few)
+
+  pub piecing-end : (p n : ℕ) → Piecing v p n → length v < p → n ≡ length (values-from v 0)
+  piecing-end p n w h = omega (arith, w .sum, ap length (values-past v p h))
+
+-- ---- a name and a value in their rooms
+
+pub name-fits : (written names : List ℕ) → length written ≤ 65535 → 65535 ≤ length names → length (name-as-matched written) ≤ length names
+name-fits written names h k = omega arith
+
+module _ (raw before room : List ℕ) (n : ℕ) (en : n ≡ length (reduced raw)) (er : room ≡ over (reduced raw) before) where
+  pub reduced-inside : n ≤ length room
+  reduced-inside = over-inside (reduced raw) before room n en er
+
+  pub reduced-short : length raw ≤ 65535 → length (take (n - 0) room) ≤ 65535
+  reduced-short h = omega (arith, ap length (over-front (reduced raw) before room n en er), reduced-le raw)
+
+  module _ (written blank names : List ℕ) (k : ℕ) (ek : k ≡ length (name-as-matched written)) (ew : names ≡ over (name-as-matched written) blank)
+      (r : Bool) (e : r ≡ never-cut (take (k - 0) names)) where
+    by-name : r ≡ never-cut (name-as-matched written)
+    by-name = e ∙ ap never-cut (over-front (name-as-matched written) blank names k ek ew)
+
+    pub one-value : r ≡ true → 1 ≡ length (values-of (name-as-matched written) (reduced raw))
+    one-value h = sym (ap length (values-whole (name-as-matched written) (reduced raw) (sym by-name ∙ h)))
+
+    pub pieces-counted : r ≡ false → (m : ℕ) → m ≡ length (values-from (take (n - 0) room) 0)
+        → m ≡ length (values-of (name-as-matched written) (reduced raw))
+    pieces-counted h m em =
+        em ∙ ap (λ (l : List ℕ). length (values-from l 0)) (over-front (reduced raw) before room n en er)
+        ∙ sym (ap length (values-cut (name-as-matched written) (reduced raw) (sym by-name ∙ h)))
+
+pub name-inside : (written blank names : List ℕ) (k : ℕ) → k ≡ length (name-as-matched written) → names ≡ over (name-as-matched written) blank → k ≤ length names
+name-inside written blank names k ek ew = over-inside (name-as-matched written) blank names k ek ew
