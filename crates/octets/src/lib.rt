@@ -1,7 +1,7 @@
 // Bytes: their classes, their case forms, and equal bytes.
 ghost use mathlib.Core.Path.{_≡_};
 ghost use lib.ListN.{getD};
-ghost use Rattle.octets.specs.Bytes.{class-of, lower, upper, same-any-case, token};
+ghost use Rattle.octets.specs.Bytes.{class-of, Classes, lower, upper, same-any-case, token};
 ghost use Rattle.octets.specs.Lists.{same};
 
 // "a table of 256 byte classes, one for each byte" (document 01): 1 token, 2 SP or HTAB, 3 any other of 33..126, 4 128 and up, 0 the rest.
@@ -270,6 +270,21 @@ pub fn class(b: u8) -> u8
     CLASSES[b as usize]
 }
 
+// The table, for whoever asks it more than once: a constant is made anew wherever it is named, all 256 bytes of it.
+pub fn class_table() -> [u8; 256]
+    ensures { λ r. ⌜ Classes r ⌝ }
+{
+    CLASSES
+}
+
+// The class of a byte, from the table.
+pub fn class_in(table: &[u8; 256], b: u8) -> u8
+    requires { ⌜ Classes (now table) ⌝ }
+    ensures { λ r. ⌜ r ≡ class-of b ⌝ }
+{
+    table[b as usize]
+}
+
 // The byte at i, or 0 past the end: it spares its callers the length.
 pub fn byte_at(s: &[u8], i: usize) -> u8
     ensures { λ r. ⌜ r ≡ getD (now (s .entry)) i 0 ⌝ }
@@ -348,9 +363,10 @@ pub fn is_token(s: &[u8]) -> bool
     if s.len() == 0 {
         return false;
     }
+    let table = class_table();
     let mut i: usize = 0;
     while i < s.len() {
-        let k = class(s[i]);
+        let k = class_in(&table, s[i]);
         i += 1;
         if k != 1 {
             return false;
