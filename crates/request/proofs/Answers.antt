@@ -9,7 +9,7 @@ use lib.ListN.{length, take, drop}
 use lib.Seq.{length-take-le}
 use Rattle.octets.specs.Option.{_>>=_}
 use Rattle.octets.proofs.Tests.{T-of}
-use Rattle.request.specs.Places.{head-of, field-lines, fields-start, line-starts, line-colons, reading, starts-of, colons-of, over, Read}
+use Rattle.request.specs.Places.{head-of, field-lines, fields-start, line-starts, line-colons, reading, starts-of, colons-of, over, Room, Read}
 use Rattle.request.specs.Request.{Field, Request, field, all-fields, read-request}
 use Rattle.request.specs.Steps.{is-some, lines-from, judged, Fillable, Filled}
 use Rattle.request.specs.declared.Judged.{Judged}
@@ -73,14 +73,14 @@ module _ (s starts colons : List ℕ) (j : Judged) (ej : j ≡ judged (head-of s
     long : length (take e s) ≡ e
     long = length-take-le e s head-inside
 
-    pub fillable : (16384 ≤ length starts) × (16384 ≤ length colons) → Fillable (take (e - 0) (drop 0 s)) f (length starts) (length colons)
+    pub fillable : Room s starts × Room s colons → Fillable (take (e - 0) (drop 0 s)) f (length starts) (length colons)
     fillable pre = subst (λ (h : List ℕ). Fillable h f (length starts) (length colons)) (sym front-is) (record {
       inside = omega (arith, a .start-inside, long);
       short = omega (arith, a .short, a .body-inside, long);
       pairs = a .paired-on;
       fields = T-of (sym (all-fields-some (lines-from (take e s) f)) ∙ ap is-some (a .fields-are));
-      starts-room = pre .0;
-      colons-room = pre .1;
+      starts-room = omega (arith, pre .0 .enough (a .short), a .body-inside, long);
+      colons-room = omega (arith, pre .1 .enough (a .short), a .body-inside, long);
     })
 
     pub read-accepted : (starts′ colons′ : List ℕ) (n : ℕ) → Filled (take (e - 0) (drop 0 s)) f starts colons starts′ colons′ n

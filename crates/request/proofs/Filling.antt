@@ -75,14 +75,17 @@ filling-first h from starts colons k = record {
 
 module _ (h : List ℕ) (from : ℕ) (starts colons starts′ colons′ : List ℕ) (p n : ℕ) (f : Filling h from starts colons starts′ colons′ p n)
     (pre : Fillable h from (length starts) (length colons)) (inside : p ≤ length h) where
-  n-few : n < 16384
-  n-few = omega (arith, f .few, pre .short)
+  starts-few : n < length starts
+  starts-few = omega (arith, f .few, pre .starts-room)
+
+  colons-few : n < length colons
+  colons-few = omega (arith, f .few, pre .colons-room)
 
   pub starts-place : n < length starts′
-  starts-place = let k = n-few in omega (arith, written-length (f .starts-so) (omega (arith, pre .starts-room)), pre .starts-room)
+  starts-place = omega (arith, written-length (f .starts-so) (omega (arith, starts-few)), starts-few)
 
   pub colons-place : n < length colons′
-  colons-place = let k = n-few in omega (arith, written-length (f .colons-so) (omega (arith, pre .colons-room)), pre .colons-room)
+  colons-place = omega (arith, written-length (f .colons-so) (omega (arith, colons-few)), colons-few)
 
   module _ (e : ℕ) (e-is : e ≡ p + first line-break (drop p h)) where
     abbrev line : List ℕ
@@ -109,25 +112,22 @@ module _ (h : List ℕ) (from : ℕ) (starts colons starts′ colons′ : List �
         starts-so =
             written-put
             (subst (Written (line-starts from (lines-from h from)) starts starts′ n) (starts-here h p e inside e-is (f .paired-on)) (f .starts-so))
-            (let j = n-few in omega (arith, pre .starts-room));
+            (omega (arith, starts-few));
         colons-so =
             written-put
             (subst (Written (line-colons from (lines-from h from)) colons colons′ n)
             (colons-here h p e inside e-is (f .paired-on) ∙ ap (λ (j : ℕ). (p + j) ∷ line-colons (e + 2) (lines-from h (e + 2))) k-colon) (f .colons-so))
-            (let j = n-few in omega (arith, pre .colons-room));
+            (omega (arith, colons-few));
       }
 
 -- past the last line
 module _ (h : List ℕ) (from : ℕ) (starts colons starts′ colons′ : List ℕ) (p n : ℕ) (f : Filling h from starts colons starts′ colons′ p n)
     (pre : Fillable h from (length starts) (length colons)) where
-  n-low : n ≤ 16384
-  n-low = omega (arith, f .few, f .inside, pre .short)
-
   pub filling-starts : length starts′ ≡ length starts
-  filling-starts = let k = n-low in written-length (f .starts-so) (omega (arith, pre .starts-room))
+  filling-starts = written-length (f .starts-so) (omega (arith, f .few, f .inside, pre .starts-room))
 
   pub filling-colons : length colons′ ≡ length colons
-  filling-colons = let k = n-low in written-length (f .colons-so) (omega (arith, pre .colons-room))
+  filling-colons = written-length (f .colons-so) (omega (arith, f .few, f .inside, pre .colons-room))
 
   pub filling-end : length h < p → Filled h from starts colons starts′ colons′ n
   unfolding line-starts line-colons

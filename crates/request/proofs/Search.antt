@@ -78,10 +78,10 @@ empty-line-is s i =
     rw (begins-at 13 (10 ∷ 13 ∷ 10 ∷ []) s i refl, begins-at 10 (13 ∷ 10 ∷ []) s (i + 1) refl, begins-at 13 (10 ∷ []) s (i + 1 + 1) refl, begins-at 10 [] s (i + 1 + 1 + 1) refl)
 
 -- the bytes that the code finds from i on
-module _ (s : List ℕ) (i a : ℕ) (ea : a ≡ getD s i 0) where
-  pub empty-no : (a ≡ 13 → ⊥) → false ≡ begins empty-line (drop i s)
-  empty-no h = sym (empty-line-is s i ∙ rw (← ea, ne-eqb 13 a (λ e. h (sym e))))
+pub empty-none : (s : List ℕ) (i : ℕ) → (getD s i 0 ≡ 13 → ⊥) → false ≡ begins empty-line (drop i s)
+empty-none s i h = sym (empty-line-is s i ∙ rw (ne-eqb 13 (getD s i 0) (λ e. h (sym e))))
 
+module _ (s : List ℕ) (i a : ℕ) (ea : a ≡ getD s i 0) where
   module _ (b : ℕ) (eb : b ≡ getD s (i + 1) 0) (ha : a ≡ 13) where
     at-a : eqb 13 (getD s i 0) ≡ true
     at-a = eq-eqb 13 (getD s i 0) (sym ha ∙ ea)

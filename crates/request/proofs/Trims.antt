@@ -6,17 +6,12 @@ use Prim.Native.Nat.{ℕ, zero, suc, _-_, _≤_, _<_}
 use native.Mathlib.Nat.{not-suc-le-zero, le-of-suc-le-suc}
 use native.Mathlib.Omega.{arith}
 use lib.ListN.{length, getD, take}
-use lib.Dec.{eqb}
 use lib.Seq.{length-take-le, take-length}
 use borrow.Author.Tests.{not-true, not-false}
-use Rattle.octets.specs.Bytes.{white, class-of}
+use Rattle.octets.specs.Bytes.{white}
 use Rattle.octets.specs.Lists.{pick, empty}
-use Rattle.octets.proofs.Classes.{rules}
 use Rattle.request.specs.Values.{trim-right}
 use Rattle.request.proofs.Parts.{front-by, front-le}
-
-pub white-class : (b k : ℕ) → b < 256 → k ≡ class-of b → eqb k 2 ≡ white b
-white-class b k byte ek = ap (λ (x : ℕ). eqb x 2) ek ∙ rules b byte .white-is
 
 -- ---- the right end
 

@@ -2,7 +2,7 @@
 use mathlib.Core.Option.{Option, none, some}
 use mathlib.Core.Path.{_≡_}
 use mathlib.Core.List.{List, [], _∷_, _++_, map}
-use Prim.Native.Nat.{ℕ, _+_, _-_, _<_}
+use Prim.Native.Nat.{ℕ, _+_, _-_, _*_, _≤_, _<_}
 use lib.ListN.{length, getD, take, drop}
 use lib.Dec.{leb, eqb}
 use Rattle.octets.specs.Lists.{text, pick}
@@ -86,6 +86,10 @@ colons-of h (some q) = line-colons (fields-start h) (field-lines h)
 -- what stands in lent places once w is written to their front
 abbrev pub over : List ℕ → List ℕ → List ℕ
 over w d = w ++ drop (length w) d
+
+-- room for a place of each field, of which every one takes at least four bytes; a longer request is not read
+pub record Room (s places : List ℕ) : Type 0 where
+  pub enough : length s ≤ 65535 → length s ≤ 4 * length places
 
 pub record Read (s starts colons starts′ colons′ : List ℕ) (r : Reading) : Type 0 where
   pub answer : r ≡ reading (head-of s) (read-request s)

@@ -3,7 +3,7 @@ use mathlib.Core.Bool.{Bool, true, false, not, _&&_}
 use mathlib.Core.Option.{Option, none, some}
 use mathlib.Core.Path.{_≡_}
 use mathlib.Core.List.{List, [], _++_}
-use Prim.Native.Nat.{ℕ, _+_, _≤_}
+use Prim.Native.Nat.{ℕ, _+_, _*_, _≤_, _<_}
 use lib.ListN.{length, drop}
 use lib.Dec.{T, leb}
 use Rattle.octets.specs.Bytes.{same-any-case, token, uri-byte}
@@ -52,14 +52,14 @@ abbrev pub judged : List ℕ → Option Request → Judged
 judged h none = Refused
 judged h (some q) = Accepted (length h) (length (q .method)) (length (q .method) + 1 + length (q .uri)) (fields-start h)
 
--- the lines from a place in the head on are fields, and there is room for a number of each: one takes at least four bytes of 65,535
+-- the lines from a place in the head on are fields, and there is room for a number of each: one takes at least four bytes
 pub record Fillable (h : List ℕ) (from room room′ : ℕ) : Type 0 where
   pub inside : from ≤ length h + 2
   pub short : length h ≤ 65535
   pub pairs : T (paired 0 (drop from h))
   pub fields : T (every is-field (lines-from h from))
-  pub starts-room : 16384 ≤ room
-  pub colons-room : 16384 ≤ room′
+  pub starts-room : length h < 4 * room
+  pub colons-room : length h < 4 * room′
 
 -- their places are written, first to last, and the rest of the lent places kept
 pub record Filled (h : List ℕ) (from : ℕ) (starts colons starts′ colons′ : List ℕ) (n : ℕ) : Type 0 where

@@ -5,10 +5,10 @@ ghost use mathlib.Core.List.{_∷_, []};
 ghost use Prim.Native.Nat.{_+_, _-_, _≤_, _<_};
 ghost use lib.Dec.{T, ltb};
 ghost use lib.ListN.{length, getD, take, drop};
-ghost use Rattle.octets.specs.Bytes.{white};
+ghost use Rattle.octets.specs.Bytes.{white, Classes};
 ghost use Rattle.octets.specs.Lists.{every, empty, pick};
 ghost use Rattle.request.specs.Cutting.{begins};
-ghost use Rattle.request.specs.Places.{head-of, part, over, Read, field-parts, Indexed, piece-at, body-line};
+ghost use Rattle.request.specs.Places.{head-of, part, over, Room, Read, field-parts, Indexed, piece-at, body-line};
 ghost use Rattle.request.specs.Request.{empty-line, head-byte, paired, head-lines, start-line, name-as-matched, head, read-request};
 ghost use Rattle.request.specs.Searching.{first, span, line-break, text-here, word-byte, space};
 ghost use Rattle.request.specs.Steps.{parts-right, start-places, is-field, lines-from, judged, Fillable, Filled, mode-of, ended-line};
@@ -18,10 +18,10 @@ ghost use Rattle.request.specs.Values.{plain, step, cuts, trim-right, re
 
 // Whether CR LF CR LF stands at i.
 fn empty_line_at(s: &[u8], i: usize) -> bool
-    requires { ⌜ i ≤ length (now s) ⌝ }
+    requires { ⌜ i < length (now s) ⌝ }
     ensures { λ r. ⌜ r ≡ begins empty-line (drop i (now (s .entry))) ⌝ }
 {
-    if octets::byte_at(s, i) != 13 {
+    if s[i] != 13 {
         return false;
     }
     if octets::byte_at(s, i + 1) != 10 {
@@ -99,10 +99,11 @@ fn head_bytes_right(h: &[u8]) -> bool
 // ---- the start line
 
 // A byte of a URI, or else of a token.
-fn word_byte_is(uri: bool, b: u8) -> bool
+fn word_byte_is(table: &[u8; 256], uri: bool, b: u8) -> bool
+    requires { ⌜ Classes (now table) ⌝ }
     ensures { λ r. ⌜ r ≡ word-byte uri b ⌝ }
 {
-    let k = octets::class(b);
+    let k = octets::class_in(table, b);
     if uri {
         return (k == 1) | (k == 3);
     }
@@ -116,11 +117,12 @@ fn is_word(uri: bool, w: &[u8]) -> bool
     if w.len() == 0 {
         return false;
     }
+    let table = octets::class_table();
     let mut i: usize = 0;
     while i < w.len() {
         let b = w[i];
         i += 1;
-        if !word_byte_is(uri, b) {
+        if !word_byte_is(&table, uri, b) {
             return false;
         }
     }
@@ -170,7 +172,7 @@ fn start_line(l: &[u8]) -> StartLine
 fn is_white(b: u8) -> bool
     ensures { λ r. ⌜ r ≡ white b ⌝ }
 {
-    octets::class(b) == 2
+    (b == 32) | (b == 9)
 }
 
 // How many bytes are left of t without SP and HTAB at its right end.
@@ -334,10 +336,9 @@ pub enum Reading {
     },
 }
 
-// Reads a request. The places of each field's line and of its colon go to the front of the lent places; nothing is written where the request
-// is unreadable.
-pub fn read(s: &[u8], starts: &mut [u16], colons: &mut [u16]) -> Reading
-    requires { ⌜ (16384 ≤ length (now starts)) × (16384 ≤ length (now colons)) ⌝ }
+// Reads a request into lent places that need hold no more than this one's fields.
+pub fn read_within(s: &[u8], starts: &mut [u16], colons: &mut [u16]) -> Reading
+    requires { ⌜ Room (now s) (now starts) × Room (now s) (now colons) ⌝ }
     ensures { λ r. ⌜ Read (now (s .entry)) (now (starts .entry)) (now (colons .entry)) (now (starts .exit)) (now (colons .exit)) r ⌝ }
 {
     match judge(s) {
@@ -357,6 +358,15 @@ pub fn read(s: &[u8], starts: &mut [u16], colons: &mut [u16]) -> Reading
             }
         }
     }
+}
+
+// Reads a request. The places of each field's line and of its colon go to the front of the lent places; nothing is written where the request
+// is unreadable.
+pub fn read(s: &[u8], starts: &mut [u16], colons: &mut [u16]) -> Reading
+    requires { ⌜ (16384 ≤ length (now starts)) × (16384 ≤ length (now colons)) ⌝ }
+    ensures { λ r. ⌜ Read (now (s .entry)) (now (starts .entry)) (now (colons .entry)) (now (starts .exit)) (now (colons .exit)) r ⌝ }
+{
+    read_within(s, starts, colons)
 }
 
 // ---- one field
