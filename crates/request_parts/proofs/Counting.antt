@@ -1,25 +1,25 @@
 -- The loop over the lines of a body, and the answer as a whole.
-use mathlib.Core.Option.{Option, none, some}
-use mathlib.Core.Path.{_≡_, refl, sym, ap, _∙_, subst}
-use mathlib.Core.List.{List, [], _∷_}
+use mathlib.Core.Option.{some}
+use mathlib.Core.Path.{_≡_, sym, ap, _∙_, subst}
+use mathlib.Core.List.{List, []}
 use Prim.Native.Nat.{ℕ, _+_, _-_, _≤_, _<_}
 use native.Mathlib.Nat.{le-refl}
 use native.Mathlib.Omega.{arith}
 use lib.ListN.{length, take, drop, length-drop}
 use lib.Seq.{take-length}
 use Rattle.octets.proofs.Kept.{total-mono, total-const}
-use Rattle.request.specs.Body.{Line, session-lines, request-lines}
-use Rattle.request.specs.Places.{head-of, part, reading, Read, body-line, session-from}
-use Rattle.request.specs.Request.{Request, read-request}
+use Rattle.request.specs.Body.{session-lines, request-lines}
+use Rattle.request.specs.Places.{part, Read, body-line, session-from}
 use Rattle.request.specs.declared.BodyLine.{BodyLine}
 use Rattle.request.specs.declared.BodyLine.the-variants.{Typed, Other, Done}
 use Rattle.request.specs.declared.Reading.{Reading}
 use Rattle.request.specs.declared.Reading.the-variants.{Unreadable, Readable}
+use Rattle.request.proofs.Answers.{read-none}
 use Rattle.request.proofs.BodyLines.{TypedAt, OtherAt, LineSays, line-says, session-start}
 use Rattle.request.proofs.Few.{weight}
 use Rattle.request.proofs.Laws.{Readably, read-says}
 use Rattle.request.proofs.Parts.{length-part}
-use Rattle.request_parts.specs.Parts.{counted, parts, PartsTo, Placed}
+use Rattle.request_parts.specs.Parts.{counted, parts, PartsTo, Placed, Rooms}
 use Rattle.request_parts.specs.declared.Parts.{Parts}
 use Rattle.request_parts.proofs.Placing.{placed}
 
@@ -80,14 +80,10 @@ lining-room body p n w short = omega (arith, w .few, w .inside)
 
 -- ---- the whole
 
-refused-by : (h : List ℕ) (o : Option Request) → Unreadable ≡ reading h o → o ≡ none
-refused-by h none e = refl
-refused-by h (some q) e = let z : _≡_ {A = ℕ} 0 1 = cc in absurd (omega arith)
-
 module _ (s starts colons starts′ colons′ : List ℕ) (r : Reading) (k : Read s starts colons starts′ colons′ r) where
   pub nothing-read : r ≡ Unreadable → _≡_ {A = Parts} (record { refusal = 7; fields = 0; values = 0; lines = 0 }) (parts s)
   unfolding parts counted
-  nothing-read e = sym (ap counted (refused-by (head-of s) (read-request s) (sym e ∙ k .answer)))
+  nothing-read e = sym (ap counted (read-none s starts colons starts′ colons′ (subst (Read s starts colons starts′ colons′) e k)))
 
   module _ (m u head fields : ℕ) (e : r ≡ Readable m u head fields) where
     read : Read s starts colons starts′ colons′ (Readable m u head fields)
@@ -124,6 +120,9 @@ module _ (s starts colons starts′ colons′ : List ℕ) (r : Reading) (k : Rea
           says .body-inside,
           says .short,
         )
+
+    pub text-fits : (room : List ℕ) → Rooms s starts colons room → length s ≤ length room
+    text-fits room w = w .text-room (says .short)
 
     pub places-read : Placed s starts′ colons′ head fields
     places-read = placed s starts colons starts′ colons′ m u head fields read

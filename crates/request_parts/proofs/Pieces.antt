@@ -1,11 +1,11 @@
 -- The values of one field: the loop over the pieces, and the two ways to their number.
 use mathlib.Core.Bool.{Bool, true, false}
-use mathlib.Core.Path.{_≡_, refl, sym, ap, _∙_, subst}
+use mathlib.Core.Path.{_≡_, sym, ap, _∙_, subst}
 use mathlib.Core.List.{List}
 use Prim.Native.Nat.{ℕ, _+_, _-_, _≤_, _<_}
 use native.Mathlib.Omega.{arith}
 use lib.ListN.{length, take}
-use Rattle.request.specs.Places.{part, over, values-from, piece-at}
+use Rattle.request.specs.Places.{over, values-from, piece-at}
 use Rattle.request.specs.Request.{name-as-matched}
 use Rattle.request.specs.Values.{reduced, never-cut, values-of}
 use Rattle.request.specs.declared.Piece.{Piece}
@@ -45,9 +45,6 @@ module _ (v : List ℕ) where
 
 -- ---- a name and a value in their rooms
 
-pub name-fits : (written names : List ℕ) → length written ≤ 65535 → 65535 ≤ length names → length (name-as-matched written) ≤ length names
-name-fits written names h k = omega arith
-
 module _ (raw before room : List ℕ) (n : ℕ) (en : n ≡ length (reduced raw)) (er : room ≡ over (reduced raw) before) where
   pub reduced-inside : n ≤ length room
   reduced-inside = over-inside (reduced raw) before room n en er
@@ -55,19 +52,20 @@ module _ (raw before room : List ℕ) (n : ℕ) (en : n ≡ length (reduced raw)
   pub reduced-short : length raw ≤ 65535 → length (take (n - 0) room) ≤ 65535
   reduced-short h = omega (arith, ap length (over-front (reduced raw) before room n en er), reduced-le raw)
 
-  module _ (written blank names : List ℕ) (k : ℕ) (ek : k ≡ length (name-as-matched written)) (ew : names ≡ over (name-as-matched written) blank)
-      (r : Bool) (e : r ≡ never-cut (take (k - 0) names)) where
+-- the name stands in the room first, then the value
+module _ (written blank named : List ℕ) (k : ℕ) (ek : k ≡ length (name-as-matched written)) (ew : named ≡ over (name-as-matched written) blank) where
+  pub name-inside : k ≤ length named
+  name-inside = over-inside (name-as-matched written) blank named k ek ew
+
+  module _ (r : Bool) (e : r ≡ never-cut (take (k - 0) named)) where
     by-name : r ≡ never-cut (name-as-matched written)
-    by-name = e ∙ ap never-cut (over-front (name-as-matched written) blank names k ek ew)
+    by-name = e ∙ ap never-cut (over-front (name-as-matched written) blank named k ek ew)
 
-    pub one-value : r ≡ true → 1 ≡ length (values-of (name-as-matched written) (reduced raw))
-    one-value h = sym (ap length (values-whole (name-as-matched written) (reduced raw) (sym by-name ∙ h)))
+    pub one-value : (raw : List ℕ) → r ≡ true → 1 ≡ length (values-of (name-as-matched written) (reduced raw))
+    one-value raw h = sym (ap length (values-whole (name-as-matched written) (reduced raw) (sym by-name ∙ h)))
 
-    pub pieces-counted : r ≡ false → (m : ℕ) → m ≡ length (values-from (take (n - 0) room) 0)
-        → m ≡ length (values-of (name-as-matched written) (reduced raw))
-    pieces-counted h m em =
+    pub pieces-counted : r ≡ false → (raw before room : List ℕ) (n : ℕ) → n ≡ length (reduced raw) → room ≡ over (reduced raw) before
+        → (m : ℕ) → m ≡ length (values-from (take (n - 0) room) 0) → m ≡ length (values-of (name-as-matched written) (reduced raw))
+    pieces-counted h raw before room n en er m em =
         em ∙ ap (λ (l : List ℕ). length (values-from l 0)) (over-front (reduced raw) before room n en er)
         ∙ sym (ap length (values-cut (name-as-matched written) (reduced raw) (sym by-name ∙ h)))
-
-pub name-inside : (written blank names : List ℕ) (k : ℕ) → k ≡ length (name-as-matched written) → names ≡ over (name-as-matched written) blank → k ≤ length names
-name-inside written blank names k ek ew = over-inside (name-as-matched written) blank names k ek ew

@@ -1,14 +1,14 @@
 -- What the places of a readable request say of its fields, and the loop over them.
 use mathlib.Core.Option.{some}
-use mathlib.Core.Path.{_≡_, refl, sym, ap, _∙_, subst}
-use mathlib.Core.List.{List, [], _∷_}
-use Prim.Native.Nat.{ℕ, suc, _+_, _-_, _≤_, _<_}
+use mathlib.Core.Path.{_≡_, sym, ap, _∙_, subst}
+use mathlib.Core.List.{List, []}
+use Prim.Native.Nat.{ℕ, _+_, _-_, _≤_, _<_}
 use native.Mathlib.Omega.{arith}
 use lib.ListN.{length, drop, drop-of-length-le}
 use Rattle.octets.specs.Lists.{total}
 use Rattle.octets.proofs.Kept.{total-mono}
 use Rattle.request.specs.Places.{head-of, part, fields-start, field-parts, Read, Indexed}
-use Rattle.request.specs.Request.{Request, Field, name-as-matched, read-request}
+use Rattle.request.specs.Request.{Request, name-as-matched, read-request}
 use Rattle.request.specs.Values.{reduced, values-of}
 use Rattle.request.specs.declared.FieldParts.{FieldParts}
 use Rattle.request.specs.declared.Reading.the-variants.{Readable}
@@ -18,7 +18,6 @@ use Rattle.request.proofs.Indexing.{FieldSays, accepted-by, readable-count, few
 use Rattle.request.proofs.Parts.{length-part}
 use Rattle.request.proofs.Somes.{some-is}
 use Rattle.request_parts.specs.Parts.{values-in, counted, parts, Placed}
-use Rattle.request_parts.specs.declared.Parts.{Parts}
 
 -- the fields before i are counted
 pub record Fielding (s : List ℕ) (i n : ℕ) : Type 0 where
@@ -92,8 +91,11 @@ module _ (s starts colons : List ℕ) (head fields : ℕ) (k : Placed s starts c
       pub name-inside : f .stop ≤ length s
       name-inside = omega (arith, said .colon-after, said .value-order, value-inside)
 
-      pub name-short : length (part s (f .name) (f .stop)) ≤ 65535
-      name-short = omega (arith, length-part s (f .name) (f .stop) name-order name-inside, name-inside, a .short)
+      pub name-fits : (room : List ℕ) → length s ≤ length room → length (part s (f .name) (f .stop)) ≤ length room
+      name-fits room h = omega (arith, length-part s (f .name) (f .stop) name-order name-inside, name-inside)
+
+      pub value-fits : (room : List ℕ) → length s ≤ length room → length (part s (f .value) (f .end)) ≤ length room
+      value-fits room h = omega (arith, length-part s (f .value) (f .end) value-order value-inside, value-inside)
 
       pub value-short : length (part s (f .value) (f .end)) ≤ 65535
       value-short = omega (arith, length-part s (f .value) (f .end) value-order value-inside, value-inside, a .short)

@@ -6,7 +6,7 @@ use Prim.Native.Nat.{ℕ, _≤_, _<_}
 use lib.ListN.{length}
 use Rattle.octets.specs.Lists.{total}
 use Rattle.request.specs.Body.{request-lines}
-use Rattle.request.specs.Places.{head-of, reading, Indexed}
+use Rattle.request.specs.Places.{head-of, reading, Room, Indexed}
 use Rattle.request.specs.Request.{Request, Field, read-request}
 use Rattle.request.specs.declared.Reading.the-variants.{Readable}
 use Rattle.request_parts.specs.declared.Parts.{Parts}
@@ -42,9 +42,8 @@ pub record Placed (s starts colons : List ℕ) (head fields : ℕ) : Type 0 wher
   pub read : Readable method uri head fields ≡ reading (head-of s) (read-request s)
   pub each : (i : ℕ) → i < fields → Indexed s starts colons head fields i
 
--- what the lent rooms hold: a place for each field, the longest name and the longest value
-pub record Rooms (starts colons names room : List ℕ) : Type 0 where
-  pub starts-room : 16384 ≤ length starts
-  pub colons-room : 16384 ≤ length colons
-  pub names-room : 65535 ≤ length names
-  pub values-room : 65535 ≤ length room
+-- the lent rooms can hold a place for each field, and any name or value; a longer request is not read
+pub record Rooms (s starts colons room : List ℕ) : Type 0 where
+  pub starts-room : Room s starts
+  pub colons-room : Room s colons
+  pub text-room : length s ≤ 65535 → length s ≤ length room

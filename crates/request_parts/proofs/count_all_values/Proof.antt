@@ -1,16 +1,16 @@
 use mathlib.Core.Path.{_≡_}
-use Prim.Native.Nat.{_-_}
+use Prim.Native.Nat.{_-_, _≤_}
 use lib.ListN.{length}
 use borrow.Author.Needs.{needs}
-use Rattle.request_parts.proofs.Placing.{Fielding, fielding-first, fielding-end, indexed-at, index-room, name-order, name-inside, value-order, value-inside, name-short, value-short, fielding-next, fielding-room}
+use Rattle.request_parts.proofs.Placing.{Fielding, fielding-first, fielding-end, indexed-at, index-room, name-order, name-inside, value-order, value-inside, name-fits, value-fits, value-short, fielding-next, fielding-room}
 use Rattle.request_parts.proofs.count_all_values.Statement.{statement}
 use Rattle.request_parts.proofs.count_all_values.Tie as tie
 
 abbrev Inv-loop : tie.InvT-loop
-Inv-loop s starts colons head fields names₀ room₀ n₀ i₀ names room n i = Fielding s i n × (length names ≡ length names₀) × (length room ≡ length room₀)
+Inv-loop s starts colons head fields room₀ n₀ i₀ room n i = Fielding s i n × (length room ≡ length room₀) × (length s ≤ length room)
 
 abbrev μ-loop : tie.MeasureT-loop
-μ-loop s starts colons head fields names₀ room₀ n₀ i₀ names room n i = fields - i
+μ-loop s starts colons head fields room₀ n₀ i₀ room n i = fields - i
 
 loop-holds : tie.Need-loop-holds Inv-loop μ-loop
 loop-holds c = search (needs, fielding-first)
@@ -37,7 +37,7 @@ part-count-values-end-2 : tie.Need-part-count-values-end-2 Inv-loop μ-loop
 part-count-values-end-2 c = search (needs, value-inside)
 
 count-values-requires : tie.Need-count-values-requires Inv-loop μ-loop
-count-values-requires c κs = ((search name-short, search value-short), (search needs, search needs))
+count-values-requires c κs = (search (needs, name-fits), search (needs, value-fits), search value-short)
 
 add-n : tie.Need-add-n Inv-loop μ-loop
 add-n c = search (needs, fielding-room)
@@ -53,9 +53,6 @@ loop-again c = (search fielding-next, search needs, search needs)
 
 same-length : tie.Need-same-length Inv-loop μ-loop
 same-length c = search needs
-
-same-length-2 : tie.Need-same-length-2 Inv-loop μ-loop
-same-length-2 c = search needs
 
 returns : tie.Need-returns Inv-loop μ-loop
 returns c = search fielding-end
@@ -80,5 +77,4 @@ count-all-values-spec =
     loop-less
     loop-again
     same-length
-    same-length-2
     returns)

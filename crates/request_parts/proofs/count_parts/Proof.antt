@@ -1,10 +1,10 @@
 use borrow.Author.Needs.{needs}
-use Rattle.request_parts.proofs.Counting.{nothing-read, body-room, body-inside, body-short, fields-few, places-read, parts-counted}
+use Rattle.request_parts.proofs.Counting.{nothing-read, body-room, body-inside, body-short, fields-few, text-fits, places-read, parts-counted}
 use Rattle.request_parts.proofs.count_parts.Statement.{statement}
 use Rattle.request_parts.proofs.count_parts.Tie as tie
 
-read-requires : tie.Need-read-requires
-read-requires c κs = search needs
+read-within-requires : tie.Need-read-within-requires
+read-within-requires c κs = search needs
 
 enum-told : tie.Need-enum-told
 enum-told c = search needs
@@ -13,7 +13,7 @@ enum-known-method : tie.Need-enum-known-method
 enum-known-method c = search needs
 
 count-all-values-requires : tie.Need-count-all-values-requires
-count-all-values-requires c κs = (search places-read, search needs)
+count-all-values-requires c κs = (search places-read, search text-fits)
 
 add-a : tie.Need-add-a
 add-a c = search (needs, body-room)
@@ -51,18 +51,14 @@ same-length-4 c = search needs
 same-length-5 : tie.Need-same-length-5
 same-length-5 c = search needs
 
-same-length-6 : tie.Need-same-length-6
-same-length-6 c = search needs
-
--- Its facts by their places: so far back `search` does not look.
 returns-2 : tie.Need-returns-2
-returns-2 c = parts-counted _ _ _ _ _ _ (c .before .before .before .before .before .before .before .before .before .before .before .before .before .before .before .before .before .before .before .read .ensures) _ _ _ _ (c .before .before .before .before .before .before .before .before .before .before .before .before .before .method .given .1) _ _ _ (c .before .before .before .before .before .before .before .count-all-values .ensures) (c .before .count-lines .ensures) (c .small .ensures)
+returns-2 c = search parts-counted
 
 pub count-parts-spec : {M : Type 1} → statement M
 count-parts-spec =
     tie.close
     (tie.spec
-    read-requires
+    read-within-requires
     enum-told
     enum-known-method
     count-all-values-requires
@@ -78,5 +74,4 @@ count-parts-spec =
     same-length-3
     same-length-4
     same-length-5
-    same-length-6
     returns-2)

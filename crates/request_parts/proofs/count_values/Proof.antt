@@ -1,13 +1,10 @@
 use borrow.Author.Needs.{needs}
-use Rattle.request_parts.proofs.Pieces.{name-fits, name-inside, reduced-inside, reduced-short, one-value, pieces-counted}
+use Rattle.request_parts.proofs.Pieces.{name-inside, reduced-inside, reduced-short, one-value, pieces-counted}
 use Rattle.request_parts.proofs.count_values.Statement.{statement}
 use Rattle.request_parts.proofs.count_values.Tie as tie
 
 name-into-requires : tie.Need-name-into-requires
-name-into-requires c κs = search name-fits
-
-normalise-requires : tie.Need-normalise-requires
-normalise-requires c κs = search needs
+name-into-requires c κs = search needs
 
 sub-never-cut : tie.Need-sub-never-cut
 sub-never-cut c = search needs
@@ -24,11 +21,11 @@ never-cut-requires c κs = search needs
 same-length : tie.Need-same-length
 same-length c = search needs
 
-same-length-2 : tie.Need-same-length-2
-same-length-2 c = search needs
-
 returns : tie.Need-returns
 returns c = search one-value
+
+normalise-requires : tie.Need-normalise-requires
+normalise-requires c κs = search needs
 
 sub-count-pieces : tie.Need-sub-count-pieces
 sub-count-pieces c = search needs
@@ -42,11 +39,8 @@ part-count-pieces-end c = search (needs, reduced-inside)
 count-pieces-requires : tie.Need-count-pieces-requires
 count-pieces-requires c κs = search (needs, reduced-short)
 
-same-length-3 : tie.Need-same-length-3
-same-length-3 c = search needs
-
-same-length-4 : tie.Need-same-length-4
-same-length-4 c = search needs
+same-length-2 : tie.Need-same-length-2
+same-length-2 c = search needs
 
 returns-2 : tie.Need-returns-2
 returns-2 c = search pieces-counted
@@ -56,18 +50,16 @@ count-values-spec =
     tie.close
     (tie.spec
     name-into-requires
-    normalise-requires
     sub-never-cut
     part-never-cut-start
     part-never-cut-end
     never-cut-requires
     same-length
-    same-length-2
     returns
+    normalise-requires
     sub-count-pieces
     part-count-pieces-start
     part-count-pieces-end
     count-pieces-requires
-    same-length-3
-    same-length-4
+    same-length-2
     returns-2)
