@@ -1,6 +1,7 @@
 #!/bin/sh
 # The library from C: the header, the archive's names, document 01's worked images, the examples, threads, stack, garbage; then the
 # fixed cases of the second program and COUNT random ones from SEED, also through the plain C that the bench compares with.
+# The reading of requests from C: the parts of the second program's requests, and of 50,000 random ones.
 # check.sh [SEED COUNT]
 set -eu
 cd "$(dirname "$0")/.."
@@ -24,7 +25,8 @@ compare() {
     "$second" compare "$out/kept" "$out/answers"
 }
 
-make_library
+make_library ifc
+make_library request_parts
 cargo build --release --offline --quiet --manifest-path second/Cargo.toml --target-dir "$out/second"
 second=$out/second/release/second
 sh tests/symbols.sh "$lib"
@@ -41,3 +43,7 @@ build cases "" tests/cases.c "$lib"
 compare cases
 build cases_plain "$plain" tests/cases.c bench/plain.c
 compare cases_plain
+build parts "" tests/parts.c target/staticlib/librequest_parts.a
+"$second" parts make "$seed" 50000 >"$out/requests"
+run parts "$out/requests" "$out/counts"
+"$second" parts compare "$out/requests" "$out/counts"

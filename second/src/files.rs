@@ -6,11 +6,11 @@ use std::io::{self, Read, Write};
 const CASES_MARK: &[u8; 4] = b"IFCC";
 const ANSWERS_MARK: &[u8; 4] = b"IFCA";
 
-fn write_number(out: &mut impl Write, number: u32) -> io::Result<()> {
+pub(crate) fn write_number(out: &mut impl Write, number: u32) -> io::Result<()> {
     out.write_all(&number.to_be_bytes())
 }
 
-fn write_bytes(out: &mut impl Write, bytes: &[u8]) -> io::Result<()> {
+pub(crate) fn write_bytes(out: &mut impl Write, bytes: &[u8]) -> io::Result<()> {
     write_number(out, bytes.len() as u32)?;
     out.write_all(bytes)
 }
@@ -46,9 +46,9 @@ pub fn write_answers(out: &mut impl Write, answers: &[Answer]) -> io::Result<()>
 }
 
 /// Reads from memory, so that a wrong length is an error and never a huge allocation.
-struct Source<'a>(&'a [u8]);
+pub(crate) struct Source<'a>(pub(crate) &'a [u8]);
 
-type Parsed<T> = Result<T, String>;
+pub(crate) type Parsed<T> = Result<T, String>;
 
 impl<'a> Source<'a> {
     fn take(&mut self, count: usize) -> Parsed<&'a [u8]> {
@@ -60,12 +60,12 @@ impl<'a> Source<'a> {
         Ok(taken)
     }
 
-    fn number(&mut self) -> Parsed<u32> {
+    pub(crate) fn number(&mut self) -> Parsed<u32> {
         let bytes = self.take(4)?;
         Ok(bytes.iter().fold(0, |number, &byte| number << 8 | u32::from(byte)))
     }
 
-    fn bytes(&mut self) -> Parsed<Vec<u8>> {
+    pub(crate) fn bytes(&mut self) -> Parsed<Vec<u8>> {
         let count = self.number()? as usize;
         Ok(self.take(count)?.to_vec())
     }
@@ -75,14 +75,14 @@ impl<'a> Source<'a> {
         (0..count).map(|_| self.number()).collect()
     }
 
-    fn mark(&mut self, mark: &[u8; 4]) -> Parsed<u32> {
+    pub(crate) fn mark(&mut self, mark: &[u8; 4]) -> Parsed<u32> {
         if self.take(4)? != mark {
             return Err(format!("the file does not begin with {}", mark.escape_ascii()));
         }
         self.number()
     }
 
-    fn ends(&self) -> Parsed<()> {
+    pub(crate) fn ends(&self) -> Parsed<()> {
         match self.0.len() {
             0 => Ok(()),
             left => Err(format!("{left} bytes follow the last entry")),

@@ -10,6 +10,7 @@ pub mod maker;
 pub mod matching;
 #[cfg(feature = "twists")]
 pub mod mutants;
+pub mod parts;
 pub mod pattern;
 pub mod profile;
 pub mod request;

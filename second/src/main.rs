@@ -1,7 +1,7 @@
-//! The commands: make, answer, compare, show, mutants.
+//! The commands: make, answer, compare, show, parts, mutants.
 
 use second::case::{self, Answer, Case};
-use second::{files, maker, show};
+use second::{files, maker, parts, show};
 use std::fs::File;
 use std::io::{self, BufWriter, Read, Write};
 use std::process::ExitCode;
@@ -10,6 +10,8 @@ const USAGE: &str = "second make SEED COUNT > cases
 second answer [CASES [ANSWERS]]
 second compare CASES ANSWERS
 second show N CASES
+second parts make SEED COUNT > requests
+second parts compare REQUESTS COUNTS
 second mutants [SEED COUNT]   (built with --features twists)";
 
 fn main() -> ExitCode {
@@ -22,6 +24,7 @@ fn main() -> ExitCode {
         ["answer", cases, answers] => answer(cases, answers),
         ["compare", cases, answers] => compare(cases, answers),
         ["show", number, cases] => show_case(number, cases),
+        ["parts", ref rest @ ..] => parts::run(rest),
         ["mutants"] => mutants("1", "4000"),
         ["mutants", seed, count] => mutants(seed, count),
         _ => Err(USAGE.to_string()),

@@ -1,0 +1,141 @@
+//! The parts of requests, counted: makes requests, and holds another program's counts against its
+//! own. README.md has both file formats.
+
+use crate::files::{write_bytes, write_number, Parsed, Source};
+use crate::maker::random::Random;
+use crate::maker::{self, lean};
+use crate::request;
+use std::fs;
+use std::io::{self, Write};
+
+const REQUESTS_MARK: &[u8; 4] = b"IFCR";
+const COUNTS_MARK: &[u8; 4] = b"IFCP";
+
+/// Refusal, fields, values of all fields, body lines that are fields.
+pub type Counts = [u32; 4];
+
+/// "Request unreadable" is refusal 7.
+pub fn counts(text: &[u8]) -> Counts {
+    let Some(request) = request::read(text) else { return [7, 0, 0, 0] };
+    let values: usize = request.fields.iter().map(|field| field.values.len()).sum();
+    [0, request.fields.len() as u32, values as u32, request.lines.len() as u32]
+}
+
+/// Every request of the fixed cases once, then `count` random ones.
+pub fn requests(seed: u64, count: usize) -> Vec<Vec<u8>> {
+    let mut requests: Vec<Vec<u8>> = maker::fixed().into_iter().map(|case| case.request).collect();
+    requests.sort();
+    requests.dedup();
+    let mut random = Random::new(seed);
+    requests.extend((0..count).map(|_| any(&mut random)));
+    requests
+}
+
+/// A third of them damaged.
+fn any(random: &mut Random) -> Vec<u8> {
+    let method = lean::method(random);
+    let mut request = match random.chance(1, 2) {
+        true => lean::request(random, &method),
+        false => mixed(random),
+    };
+    if random.chance(1, 3) {
+        lean::damage(random, &mut request);
+    }
+    request
+}
+
+/// Values of the bytes that open, close and cut, in any order, and a body of those that end lines. Now
+/// and then long ones, some past the limit.
+fn mixed(random: &mut Random) -> Vec<u8> {
+    let most = if random.chance(1, 200) { 400 } else { 12 };
+    let mut out = b"A b SIP/2.0\r\n".to_vec();
+    for _ in 0..random.below(most) {
+        if out.len() > 65_000 {
+            break;
+        }
+        out.extend(random.pick(&["X", "Subject", "dATE", "Dates", "m"]).bytes());
+        out.extend(random.pick(&[":", " \t:", ": "]).bytes());
+        for _ in 0..random.below(most) {
+            out.extend(*random.pick(&[
+                b"a".as_slice(),
+                b",",
+                b"\"",
+                b"<",
+                b">",
+                b"\\",
+                b" ",
+                b"\t",
+                b"\r\n ",
+                b":",
+                b"\xFF",
+            ]));
+        }
+        out.extend(b"\r\n");
+    }
+    out.extend(b"\r\n");
+    for _ in 0..random.below(2 * most) {
+        out.extend(*random.pick(&[b"a".as_slice(), b"=", b"\r", b"\n", b"a=", b"\r\n"]));
+    }
+    out
+}
+
+/// `parts make SEED COUNT` and `parts compare REQUESTS COUNTS`.
+pub fn run(words: &[&str]) -> Result<bool, String> {
+    match words {
+        ["make", seed, count] => {
+            let number = |word: &str| word.parse().map_err(|_| format!("{word} is no number"));
+            let made = requests(number(seed)?, number(count)? as usize);
+            write_requests(&mut io::BufWriter::new(io::stdout().lock()), &made)
+                .map_err(|error| error.to_string())?;
+            Ok(true)
+        }
+        ["compare", requests, counts] => {
+            let file = |name: &str| fs::read(name).map_err(|error| format!("{name}: {error}"));
+            compare(&read_requests(&file(requests)?)?, &read_counts(&file(counts)?)?)
+        }
+        _ => Err("parts make SEED COUNT, or parts compare REQUESTS COUNTS".to_string()),
+    }
+}
+
+fn write_requests(out: &mut impl Write, requests: &[Vec<u8>]) -> io::Result<()> {
+    out.write_all(REQUESTS_MARK)?;
+    write_number(out, requests.len() as u32)?;
+    requests.iter().try_for_each(|request| write_bytes(out, request))?;
+    out.flush()
+}
+
+fn read_requests(file: &[u8]) -> Parsed<Vec<Vec<u8>>> {
+    let mut source = Source(file);
+    let count = source.mark(REQUESTS_MARK)?;
+    let requests = (0..count).map(|_| source.bytes()).collect::<Parsed<Vec<Vec<u8>>>>()?;
+    source.ends()?;
+    Ok(requests)
+}
+
+fn read_counts(file: &[u8]) -> Parsed<Vec<Counts>> {
+    let mut source = Source(file);
+    let count = source.mark(COUNTS_MARK)?;
+    let mut counts = Vec::new();
+    for _ in 0..count {
+        counts.push([source.number()?, source.number()?, source.number()?, source.number()?]);
+    }
+    source.ends()?;
+    Ok(counts)
+}
+
+/// A run in which hardly any request is readable, or nearly all are, compares too little.
+fn compare(requests: &[Vec<u8>], given: &[Counts]) -> Result<bool, String> {
+    if requests.len() != given.len() {
+        println!("{} requests, {} counts", requests.len(), given.len());
+        return Ok(false);
+    }
+    let own: Vec<Counts> = requests.iter().map(|request| counts(request)).collect();
+    let readable = own.iter().filter(|own| own[0] == 0).count();
+    if let Some(place) = (0..own.len()).find(|&place| own[place] != given[place]) {
+        println!("request {place}: {}", requests[place].escape_ascii());
+        println!("second: {:?}\ngiven:  {:?}", own[place], given[place]);
+        return Ok(false);
+    }
+    println!("{} requests, {readable} readable, no difference", requests.len());
+    Ok(10 * readable > requests.len() && 10 * readable < 9 * requests.len())
+}

@@ -1,0 +1,36 @@
+/* parts REQUESTS COUNTS: counts the parts of each request of the second program's file, for `second parts compare`.
+ *
+ * Each request is counted twice: it ends where an inaccessible page begins, then begins where one ends. The lent numbers hold
+ * something else each time, so that one which is not written shows. */
+#include "lent.h"
+
+uint32_t request_parts(const uint8_t *request, size_t length, uint32_t *fields, uint32_t *values, uint32_t *lines);
+
+static void count(const uint8_t *request, size_t length, uint32_t before, uint32_t *n) {
+    n[1] = n[2] = n[3] = before;
+    n[0] = request_parts(request, length, &n[1], &n[2], &n[3]);
+}
+
+int main(int argc, char **argv) {
+    static struct bytes request;
+    if (argc != 3) stop("parts REQUESTS COUNTS");
+    FILE *in = fopen(argv[1], "rb"), *out = fopen(argv[2], "wb");
+    if (!in || !out) stop("cannot open a file");
+    uint8_t *lent = room();
+    if (number(in) != 0x49464352) stop("not a file of requests");
+    uint32_t many = number(in);
+    put(out, 0x49464350), put(out, many);
+    for (uint32_t i = 0; i < many; i++) {
+        uint32_t at_end[4], at_start[4];
+        bytes(in, &request);
+        uint8_t *end = lent + ROOM - request.length;
+        memcpy(end, request.at, request.length);
+        count(end, request.length, 0xDEADBE00, at_end);
+        memcpy(lent, request.at, request.length);
+        count(lent, request.length, 0xDEADBE01, at_start);
+        if (memcmp(at_end, at_start, sizeof at_end)) stop("one request has two answers");
+        for (int k = 0; k < 4; k++) put(out, at_end[k]);
+    }
+    if (fclose(out)) stop("cannot write");
+    return 0;
+}
