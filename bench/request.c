@@ -1,0 +1,101 @@
+/* Counting the parts of a request, against plain C of the same passes: a usual INVITE, and each shape that could cost more than
+ * its bytes, at four sizes. `grows` is the time against that of the size before: 2 where the time is linear. */
+#include <stddef.h>
+#include <stdint.h>
+#include <stdio.h>
+#include <stdlib.h>
+#include <string.h>
+#include <time.h>
+
+typedef uint32_t parts(const uint8_t *request, size_t length, uint32_t *fields, uint32_t *values, uint32_t *lines);
+parts request_parts, plain_parts;
+
+enum { MOST = 65535 };
+static uint8_t request[MOST];
+static size_t length;
+
+static const char invite[] =
+    "INVITE sip:+4420718205550@desk.example.net;user=phone SIP/2.0\r\n"
+    "Via: SIP/2.0/UDP 192.0.2.41:5060;branch=z9hG4bK776asdhds;rport, SIP/2.0/TCP edge.example.net;branch=z9hG4bK87asdks7\r\n"
+    "Max-Forwards: 68\r\n"
+    "Route: <sip:scscf.example.net;lr>, <sip:icscf.example.net;lr>\r\n"
+    "From: \"Trading Desk, Room 4\" <sip:desk4@example.net>;tag=1928301774\r\n"
+    "To: <sip:+4420718205550@example.net;user=phone>\r\n"
+    "Call-ID: a84b4c76e66710@desk4.example.net\r\n"
+    "CSeq: 314159 INVITE\r\n"
+    "Contact: <sip:desk4@192.0.2.41:5060;transport=udp>;+g.3gpp.icsi-ref=\"urn%3Aurn-7%3A3gpp-service.ims.icsi.mmtel\"\r\n"
+    "P-Asserted-Identity: \"Desk 4\" <sip:desk4@example.net>, <tel:+442071820001>\r\n"
+    "Allow: INVITE, ACK, CANCEL, BYE, OPTIONS, UPDATE, PRACK, REFER, NOTIFY\r\n"
+    "Supported: 100rel, timer, replaces,\r\n precondition\r\n"
+    "Subject: Call, with commas\r\n"
+    "Content-Type: application/sdp\r\n"
+    "Content-Length: 190\r\n"
+    "\r\n"
+    "v=0\r\no=desk4 2890844526 2890844526 IN IP4 192.0.2.41\r\ns=-\r\nc=IN IP4 192.0.2.41\r\nt=0 0\r\n"
+    "m=audio 49172 RTP/AVP 8 0 101\r\na=rtpmap:8 PCMA/8000\r\na=rtpmap:101 telephone-event/8000\r\na=sendrecv\r\n";
+
+/* ---- shapes */
+
+static void text(const char *t) { memcpy(request + length, t, strlen(t)), length += strlen(t); }
+
+/* `again` as often as it fits between `head` and `last`. */
+static void fill(size_t size, const char *head, const char *again, const char *last) {
+    length = 0;
+    text(head);
+    while (length + strlen(again) + strlen(last) <= size) text(again);
+    text(last);
+}
+
+static void folds(size_t size) { fill(size, "A b SIP/2.0\r\nX:", "\r\n ", "\r\n\r\n"); }
+static void commas(size_t size) { fill(size, "A b SIP/2.0\r\nX:", ",", "\r\n\r\n"); }
+static void fields(size_t size) { fill(size, "A b SIP/2.0\r\n", "a:\r\n", "\r\n"); }
+static void value(size_t size) { fill(size, "A b SIP/2.0\r\nX: ", "a", "\r\n\r\n"); }
+static void lines(size_t size) { fill(size, "A b SIP/2.0\r\n\r\n", "a=\n", ""); }
+
+/* ---- times */
+
+/* Of the processor's time, so that others on the machine count less. */
+static double once(parts *count, uint32_t times, uint32_t *n) {
+    struct timespec a, b;
+    clock_gettime(CLOCK_PROCESS_CPUTIME_ID, &a);
+    for (uint32_t i = 0; i < times; i++) n[0] = count(request, length, &n[1], &n[2], &n[3]);
+    clock_gettime(CLOCK_PROCESS_CPUTIME_ID, &b);
+    return ((double)(b.tv_sec - a.tv_sec) * 1e9 + (double)(b.tv_nsec - a.tv_nsec)) / times;
+}
+
+/* The best of several runs, in turn, so that a slow moment of the machine hits both. */
+static double line(const char *name, double before) {
+    double rattle = 1e18, plain = 1e18;
+    uint32_t times = 1 + 400000 / (uint32_t)(length + 100), n[4], m[4];
+    for (int i = 0; i < 9; i++) {
+        double t = once(request_parts, times, n), u = once(plain_parts, times, m);
+        if (t < rattle) rattle = t;
+        if (u < plain) plain = u;
+        if (memcmp(n, m, sizeof n) || n[0]) fprintf(stderr, "%s: the two do not agree, or refuse\n", name), exit(1);
+    }
+    printf("%-8s %6zu %7u %7u %7u %10.0f %10.0f %6.2f", name, length, n[1], n[2], n[3], rattle, plain, rattle / plain);
+    if (before > 0) printf(" %6.2f", rattle / before);
+    printf("\n");
+    return rattle;
+}
+
+static void shape(const char *name, void (*make)(size_t)) {
+    double before = 0;
+    for (size_t size = 8192; size <= 65536; size *= 2) {
+        make(size < MOST ? size : MOST);
+        before = line(name, before);
+    }
+}
+
+int main(void) {
+    printf("%-8s %6s %7s %7s %7s %10s %10s %6s %6s\n", "shape", "bytes", "fields", "values", "lines", "ns", "plain ns", "ratio", "grows");
+    length = 0;
+    text(invite);
+    line("invite", 0);
+    shape("folds", folds);
+    shape("commas", commas);
+    shape("fields", fields);
+    shape("value", value);
+    shape("lines", lines);
+    return 0;
+}
