@@ -9,7 +9,7 @@ use native.Mathlib.Omega.{arith}
 use lib.ListN.{length, getD, drop, set, drop-of-length-le, length-set}
 use lib.Seq.{drop-cons}
 use lib.Dec.{eqb, ltb}
-use borrow.Author.Tests.{ne-eqb, eqb-true, lt-ltb}
+use borrow.Author.Tests.{eqb-true, lt-ltb}
 use Rattle.octets.specs.Bytes.{white}
 use Rattle.octets.specs.Lists.{pick, some-of, empty, peek}
 use Rattle.octets.proofs.Tests.{test-cases}
@@ -20,17 +20,14 @@ use Rattle.request.proofs.Writing.{Written, written-start, written-put,
 
 -- ---- bytes
 
-pub space-high : (b : ℕ) → 32 < b → false ≡ space b
-space-high b h = rw (ne-eqb b 32 (λ e. omega (arith, e)), ne-eqb b 9 (λ e. omega (arith, e)), ne-eqb b 10 (λ e. omega (arith, e)), ne-eqb b 13 (λ e. omega (arith, e)))
-
 in-turn : (a b c d : Bool) → (a || b || c || d) ≡ (a || (b || (c || (d || false))))
 in-turn true b c d = refl
 in-turn false true c d = refl
 in-turn false false true d = refl
 in-turn false false false d = sym (or-false d)
 
-pub space-low : (b : ℕ) → (eqb b 32 || eqb b 9 || eqb b 10 || eqb b 13) ≡ space b
-space-low b = in-turn (eqb b 32) (eqb b 9) (eqb b 10) (eqb b 13)
+pub space-is : (b : ℕ) → (eqb b 32 || eqb b 9 || eqb b 10 || eqb b 13) ≡ space b
+space-is b = in-turn (eqb b 32) (eqb b 9) (eqb b 10) (eqb b 13)
 
 -- what `spaces` makes of a byte
 abbrev spaced : ℕ → ℕ

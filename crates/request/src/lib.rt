@@ -111,18 +111,18 @@ fn word_byte_is(table: &[u8; 256], uri: bool, b: u8) -> bool
 }
 
 // Whether the bytes are one or more, all of a URI, or else all of a token.
-fn is_word(uri: bool, w: &[u8]) -> bool
+fn is_word(table: &[u8; 256], uri: bool, w: &[u8]) -> bool
+    requires { ⌜ Classes (now table) ⌝ }
     ensures { λ r. ⌜ r ≡ (not (empty (now (w .entry))) && every (word-byte uri) (now (w .entry))) ⌝ }
 {
     if w.len() == 0 {
         return false;
     }
-    let table = octets::class_table();
     let mut i: usize = 0;
     while i < w.len() {
         let b = w[i];
         i += 1;
-        if !word_byte_is(&table, uri, b) {
+        if !word_byte_is(table, uri, b) {
             return false;
         }
     }
@@ -134,10 +134,11 @@ fn start_parts_right(l: &[u8], m: usize, u: usize) -> bool
     requires { ⌜ (m < u) × (u < length (now l)) ⌝ }
     ensures { λ r. ⌜ r ≡ parts-right (take m (now (l .entry))) (part (now (l .entry)) (m + 1) u) (drop (u + 1) (now (l .entry))) ⌝ }
 {
-    if !is_word(false, &l[0..m]) {
+    let table = octets::class_table();
+    if !is_word(&table, false, &l[0..m]) {
         return false;
     }
-    if !is_word(true, &l[m + 1..u]) {
+    if !is_word(&table, true, &l[m + 1..u]) {
         return false;
     }
     octets::same_letters(&l[u + 1..], b"SIP/2.0")
@@ -191,7 +192,8 @@ fn trimmed_end(t: &[u8]) -> usize
 }
 
 // Whether a line with its folds is a field: name token, any SP or HTAB, colon, value.
-fn is_field(l: &[u8]) -> bool
+fn is_field(table: &[u8; 256], l: &[u8]) -> bool
+    requires { ⌜ Classes (now table) ⌝ }
     ensures { λ r. ⌜ r ≡ is-field (now (l .entry)) ⌝ }
 {
     let k = place_of(l, 0, 58);
@@ -199,7 +201,7 @@ fn is_field(l: &[u8]) -> bool
         return false;
     }
     let n = trimmed_end(&l[0..k]);
-    is_word(false, &l[0..n])
+    is_word(table, false, &l[0..n])
 }
 
 // Whether a field's line ends at i: CR LF with no SP or HTAB after it.
@@ -235,14 +237,15 @@ fn line_end(h: &[u8], from: usize) -> usize
 }
 
 // Whether every line from a place on is a field.
-fn are_fields(h: &[u8], from: usize) -> bool
+fn are_fields(table: &[u8; 256], h: &[u8], from: usize) -> bool
+    requires { ⌜ Classes (now table) ⌝ }
     requires { ⌜ (from ≤ length (now h) + 2) × (length (now h) ≤ 65535) × T (paired 0 (drop from (now h))) ⌝ }
     ensures { λ r. ⌜ r ≡ every is-field (lines-from (now (h .entry)) from) ⌝ }
 {
     let mut p = from;
     while p <= h.len() {
         let e = line_end(h, p);
-        let right = is_field(&h[p..e]);
+        let right = is_field(table, &h[p..e]);
         p = e + 2;
         if !right {
             return false;
@@ -277,7 +280,8 @@ fn judge_lines(h: &[u8]) -> Judged
     match start_line(&h[0..n]) {
         StartLine::Bad => Judged::Refused,
         StartLine::Good { method, uri } => {
-            if are_fields(h, n + 2) {
+            let table = octets::class_table();
+            if are_fields(&table, h, n + 2) {
                 return Judged::Accepted {
                     head: h.len(),
                     method: method,
@@ -439,9 +443,6 @@ pub fn name_into(written: &[u8], dst: &mut [u8]) -> usize
 fn is_space(b: u8) -> bool
     ensures { λ r. ⌜ r ≡ space b ⌝ }
 {
-    if 32 < b {
-        return false;
-    }
     (b == 32) | (b == 9) | (b == 10) | (b == 13)
 }
 

@@ -8,10 +8,10 @@ use Rattle.request.proofs.are_fields.Statement.{statement}
 use Rattle.request.proofs.are_fields.Tie as tie
 
 abbrev Inv-loop : tie.InvT-loop
-Inv-loop h from p₀ p = Checking h from p
+Inv-loop table h from p₀ p = Checking h from p
 
 abbrev μ-loop : tie.MeasureT-loop
-μ-loop h from p₀ p = length h + 2 - p
+μ-loop table h from p₀ p = length h + 2 - p
 
 loop-holds : tie.Need-loop-holds Inv-loop μ-loop
 loop-holds c = search checking-first

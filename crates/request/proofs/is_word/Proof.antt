@@ -6,16 +6,13 @@ use Rattle.request.proofs.is_word.Statement.{statement}
 use Rattle.request.proofs.is_word.Tie as tie
 
 abbrev Inv-loop : tie.InvT-loop
-Inv-loop uri w table i₀ i = Word uri w i
+Inv-loop table uri w i₀ i = Word uri w i
 
 abbrev μ-loop : tie.MeasureT-loop
-μ-loop uri w table i₀ i = length w - i
+μ-loop table uri w i₀ i = length w - i
 
 returns : tie.Need-returns Inv-loop μ-loop
 returns c = search word-none
-
-class-table-requires : tie.Need-class-table-requires Inv-loop μ-loop
-class-table-requires c κs = search needs
 
 loop-holds : tie.Need-loop-holds Inv-loop μ-loop
 loop-holds c = search word-first
@@ -48,7 +45,6 @@ is-word-spec =
     Inv-loop
     μ-loop
     returns
-    class-table-requires
     loop-holds
     shared-slice-read-b
     add-i

@@ -38,14 +38,17 @@ enum-told c = search needs
 enum-known-method : tie.Need-enum-known-method
 enum-known-method c = search needs
 
+class-table-requires : tie.Need-class-table-requires
+class-table-requires c κs = search needs
+
 add-are-fields : tie.Need-add-are-fields
-add-are-fields c = omega (arith, n-inside (now (c .before .before .before .before .before .before .before .before .before .before .args .h)) _ (c .before .before .before .before .before .before .before .before .before .before .pre) (c .before .before .before .before .before .before .before .before .place-of .ensures))
+add-are-fields c = omega (arith, n-inside (now (c .before .before .before .before .before .before .before .before .before .before .before .before .args .h)) _ (c .before .before .before .before .before .before .before .before .before .before .before .before .pre) (c .before .before .before .before .before .before .before .before .before .before .place-of .ensures))
 
 are-fields-requires : tie.Need-are-fields-requires
-are-fields-requires c κs = (omega (arith, n-inside (now (c .before .before .before .before .before .before .before .before .before .before .args .h)) _ (c .before .before .before .before .before .before .before .before .before .before .pre) (c .before .before .before .before .before .before .before .before .place-of .ensures)), search needs, search rest-paired)
+are-fields-requires c κs = (search needs, (omega (arith, n-inside (now (c .before .before .before .before .before .before .before .before .before .before .before .before .args .h)) _ (c .before .before .before .before .before .before .before .before .before .before .before .before .pre) (c .before .before .before .before .before .before .before .before .before .before .place-of .ensures)), search needs, search rest-paired))
 
-add-t16 : tie.Need-add-t16
-add-t16 c = omega (arith, n-inside (now (c .before .before .before .before .before .before .before .before .before .before .before .before .args .h)) _ (c .before .before .before .before .before .before .before .before .before .before .before .before .pre) (c .before .before .before .before .before .before .before .before .before .before .place-of .ensures))
+add-t19 : tie.Need-add-t19
+add-t19 c = omega (arith, n-inside (now (c .before .before .before .before .before .before .before .before .before .before .before .before .before .before .args .h)) _ (c .before .before .before .before .before .before .before .before .before .before .before .before .before .before .pre) (c .before .before .before .before .before .before .before .before .before .before .before .before .place-of .ensures))
 
 returns-2 : tie.Need-returns-2
 returns-2 c = search lines-right
@@ -71,9 +74,10 @@ judge-lines-spec =
     start-line-requires
     enum-told
     enum-known-method
+    class-table-requires
     add-are-fields
     are-fields-requires
-    add-t16
+    add-t19
     returns-2
     returns-3
     returns-4)

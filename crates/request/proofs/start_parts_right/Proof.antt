@@ -3,6 +3,9 @@ use Rattle.request.proofs.StartParts.{parts-no-method, parts-no-uri, pa
 use Rattle.request.proofs.start_parts_right.Statement.{statement}
 use Rattle.request.proofs.start_parts_right.Tie as tie
 
+class-table-requires : tie.Need-class-table-requires
+class-table-requires c κs = search needs
+
 sub-is-word : tie.Need-sub-is-word
 sub-is-word c = search needs
 
@@ -61,6 +64,7 @@ pub start-parts-right-spec : {M : Type 1} → statement M
 start-parts-right-spec =
     tie.close
     (tie.spec
+    class-table-requires
     sub-is-word
     part-is-word-start
     part-is-word-end
