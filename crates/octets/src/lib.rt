@@ -264,12 +264,6 @@ const CLASSES: [u8; 256] = [
     4,
 ];
 
-pub fn class(b: u8) -> u8
-    ensures { λ r. ⌜ r ≡ class-of b ⌝ }
-{
-    CLASSES[b as usize]
-}
-
 // The table, for whoever asks it more than once: a constant is made anew wherever it is named, all 256 bytes of it.
 pub fn class_table() -> [u8; 256]
     ensures { λ r. ⌜ Classes r ⌝ }
