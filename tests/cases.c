@@ -1,49 +1,13 @@
-/* cases CASES KEPT ANSWERS: runs a case file of the second program through libifc.a. Writes the cases that the library has calls
- * for to KEPT and what it answered to ANSWERS, for `second compare KEPT ANSWERS`.
+/* cases CASES ANSWERS: runs a case file of the second program through the library, and writes what it answered to ANSWERS, for
+ * `second compare CASES ANSWERS`.
  *
  * Each case is run twice: image, request and list each end where an inaccessible page begins, then each begins where one ends. A
- * byte read or written outside stops the program; so do two answers that differ, and an image or request that was changed.
- *
- * -DIFC_ALL: the library has advance and list. */
-#include <stddef.h>
-#include <stdint.h>
-#include <stdio.h>
-#include <stdlib.h>
-#include <string.h>
-#include <sys/mman.h>
+ * byte read or written outside stops the program; so do two answers that differ, and an image or request that was changed. */
+#include "lent.h"
 #include "../include/ifc.h"
 
-enum { PAGE = 4096, ROOM = 131072, MOST = 16 };
+enum { MOST = 16 };
 enum { CHECK, OPEN, ADVANCE, REPORT, LIST, SERVER, INFORMATION };
-
-static void stop(const char *why) {
-    fprintf(stderr, "cases: %s\n", why);
-    exit(2);
-}
-
-/* ---- files of big-endian numbers */
-
-static uint32_t number(FILE *in) {
-    uint8_t b[4];
-    if (fread(b, 1, 4, in) != 4) stop("the case file is cut short");
-    return (uint32_t)b[0] << 24 | (uint32_t)b[1] << 16 | (uint32_t)b[2] << 8 | b[3];
-}
-
-static void put(FILE *out, uint32_t n) {
-    uint8_t b[4] = {(uint8_t)(n >> 24), (uint8_t)(n >> 16), (uint8_t)(n >> 8), (uint8_t)n};
-    if (fwrite(b, 1, 4, out) != 4) stop("cannot write");
-}
-
-struct bytes {
-    uint32_t length;
-    uint8_t at[ROOM];
-};
-
-static void bytes(FILE *in, struct bytes *to) {
-    to->length = number(in);
-    if (to->length > ROOM) stop("a part of a case is too long");
-    if (fread(to->at, 1, to->length, in) != to->length) stop("the case file is cut short");
-}
 
 static void put_bytes(FILE *out, const struct bytes *from) {
     put(out, from->length);
@@ -74,23 +38,6 @@ static void read_one(FILE *in, struct one *c) {
     for (uint32_t i = 0; i < c->count; i++) c->n[i] = number(in);
 }
 
-static void keep(FILE *kept, const struct one *c) {
-    put(kept, c->call);
-    put_bytes(kept, &c->label);
-    put_bytes(kept, &c->image);
-    put_bytes(kept, &c->request);
-    put_bytes(kept, &c->list);
-    put_numbers(kept, c->n, c->count);
-}
-
-static int has(uint32_t call) {
-#ifdef IFC_ALL
-    return call <= INFORMATION;
-#else
-    return call == CHECK || call == OPEN || call == REPORT || call == SERVER || call == INFORMATION;
-#endif
-}
-
 /* What a case lends: each in a room of its own. */
 struct lent {
     uint8_t *image, *request, *list;
@@ -102,27 +49,16 @@ static uint32_t call(const struct one *c, const struct lent *at, uint32_t *n) {
     switch (c->call) {
     case CHECK: return ifc_check(image, length, &n[0]);
     case OPEN: return ifc_open(n[0], &n[1], &n[2], &n[3], &n[4], &n[5]);
-#ifdef IFC_ALL
     case ADVANCE:
         return ifc_advance(image, length, at->request, c->request.length, n[0], &n[1], &n[2], &n[3], &n[4], &n[5], &n[6], &n[7],
             &n[8], &n[9], &n[10]);
     case LIST:
         return ifc_list(image, length, at->request, c->request.length, n[0], n[1], at->list, c->list.length, &n[2], &n[3], &n[4],
             &n[5]);
-#endif
     case REPORT: return ifc_report(n[0], &n[1], n[2], n[3], n[4], n[5]);
     case SERVER: return ifc_server(image, length, n[0], &n[1], &n[2], &n[3]);
     default: return ifc_information(image, length, n[0], &n[1], &n[2], &n[3], &n[4]);
     }
-}
-
-/* ---- rooms between two inaccessible pages */
-
-static uint8_t *room(void) {
-    uint8_t *all = mmap(NULL, ROOM + 2 * PAGE, PROT_READ | PROT_WRITE, MAP_PRIVATE | MAP_ANONYMOUS, -1, 0);
-    if (all == MAP_FAILED) stop("no memory");
-    if (mprotect(all, PAGE, PROT_NONE) || mprotect(all + PAGE + ROOM, PAGE, PROT_NONE)) stop("no guard pages");
-    return all + PAGE;
 }
 
 /* A part of a case at the end of a room, or at its start. */
@@ -149,32 +85,24 @@ static uint32_t run(const struct one *c, const struct lent *rooms, int end, uint
 int main(int argc, char **argv) {
     static struct one c;
     static struct bytes list, again;
-    if (argc != 4) stop("cases CASES KEPT ANSWERS");
-    FILE *in = fopen(argv[1], "rb"), *kept = fopen(argv[2], "wb"), *answers = fopen(argv[3], "wb");
-    if (!in || !kept || !answers) stop("cannot open a file");
+    if (argc != 3) stop("cases CASES ANSWERS");
+    FILE *in = fopen(argv[1], "rb"), *answers = fopen(argv[2], "wb");
+    if (!in || !answers) stop("cannot open a file");
     struct lent rooms = {room(), room(), room()};
-    uint32_t had = 0;
     if (number(in) != 0x49464343) stop("not a case file");
     uint32_t count = number(in);
-    put(kept, 0x49464343), put(kept, 0);
-    put(answers, 0x49464341), put(answers, 0);
+    put(answers, 0x49464341), put(answers, count);
     for (uint32_t i = 0; i < count; i++) {
         uint32_t at_end[MOST], at_start[MOST];
         read_one(in, &c);
-        if (!has(c.call)) continue;
         uint32_t first = run(&c, &rooms, 1, at_end, &list);
         uint32_t second = run(&c, &rooms, 0, at_start, &again);
         if (first != second || memcmp(at_end, at_start, sizeof at_end) || memcmp(list.at, again.at, list.length))
             stop("one case has two answers");
-        had++;
-        keep(kept, &c);
         put(answers, first);
         put_bytes(answers, &list);
         put_numbers(answers, at_end, c.count);
     }
-    fseek(kept, 4, SEEK_SET), put(kept, had);
-    fseek(answers, 4, SEEK_SET), put(answers, had);
-    if (fclose(kept) || fclose(answers)) stop("cannot write");
-    printf("%u of %u cases have a call in the library\n", had, count);
+    if (fclose(answers)) stop("cannot write");
     return 0;
 }

@@ -21,8 +21,8 @@ run() {
     sh tests/cc-x86.sh run "$out/$program" "$@"
 }
 compare() {
-    run "$1" "$out/made" "$out/kept" "$out/answers"
-    "$second" compare "$out/kept" "$out/answers"
+    run "$1" "$out/made" "$out/answers"
+    "$second" compare "$out/made" "$out/answers"
 }
 
 make_library ifc

@@ -1,5 +1,4 @@
-/* The two images that document 01 writes out, and what it says of them. Every number here is read off that page.
- * -DIFC_ALL: the library has advance and list. */
+/* The two images that document 01 writes out, and what it says of them. Every number here is read off that page. */
 #include <stddef.h>
 #include <stdint.h>
 #include <stdio.h>
@@ -19,7 +18,6 @@ static void is(const char *what, uint32_t got, uint32_t right) {
     wrong = 1;
 }
 
-#ifdef IFC_ALL
 static const char invite[] = "INVITE sip:b SIP/2.0\r\n\r\n", registers[] = "REGISTER sip:b SIP/2.0\r\n\r\n";
 
 static void walks(void) {
@@ -53,7 +51,6 @@ static void walks(void) {
     is("the first place", list[0], 0);
     is("the second, untouched", list[1], 9);
 }
-#endif
 
 int main(void) {
     uint32_t place = 9, start = 9, length = 9, present = 9;
@@ -71,9 +68,7 @@ int main(void) {
     is("the information's lookup", ifc_information(one, sizeof one, 0, &place, &present, &start, &length), 0);
     is("its presence", present, 0);
     is("no second criterion", ifc_server(one, sizeof one, 1, &place, &start, &length), 13);
-#ifdef IFC_ALL
     walks();
-#endif
     if (!wrong) puts("worked: ok");
     return wrong;
 }
