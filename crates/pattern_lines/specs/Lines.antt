@@ -1,0 +1,40 @@
+-- How many lines of a block a pattern matches: one call for tests and measures.
+use mathlib.Core.Bool.{Bool, not}
+use mathlib.Core.List.{List, [], _∷_}
+use mathlib.Core.Path.{_≡_}
+use Prim.Native.Nat.{ℕ, suc, _%_}
+use lib.Dec.{eqb}
+use Rattle.octets.specs.Lists.{pick, total}
+use Rattle.pattern.specs.Answers.{is-pattern, meets-text}
+
+-- a byte more at the front of the first line
+abbrev pub longer : ℕ → List (List ℕ) → List (List ℕ)
+longer b [] = []
+longer b (l ∷ ls) = (b ∷ l) ∷ ls
+
+-- the block cut at each LF (10): without one it is one line, and the empty block is one empty line
+unfoldable pub lines : List ℕ → List (List ℕ)
+lines [] = [] ∷ []
+lines (b ∷ s) = pick (eqb b 10) ([] ∷ lines s) (longer b (lines s))
+
+-- a line counts 1 where the pattern matches it, else 0; fold: as on names
+abbrev pub counts : Bool → List ℕ → List ℕ → ℕ
+counts fold p line = pick (meets-text fold p line) 1 0
+
+-- how many lines the pattern matches
+unfoldable pub matched : Bool → List ℕ → List ℕ → ℕ
+unfolding lines meets-text
+matched fold p block = total (counts fold p) (lines block)
+
+-- The answer: 5 and none met where the string is no pattern, else 0 and how many lines it matches, of which the lent number holds
+-- the low 32 bits. fold 0: as written; any other: as on names.
+pub record LinesTo (p : List ℕ) (fold : ℕ) (block : List ℕ) (number met : ℕ) : Type 0 where
+  pub number-is : number ≡ pick (is-pattern p) 0 5
+  pub met-is : met ≡ pick (is-pattern p) (matched (not (eqb fold 0)) p block % 4294967296) 0
+
+-- ---- how the code goes through the block
+
+-- how many bytes stand before the first LF, or all
+unfoldable pub before-lf : List ℕ → ℕ
+before-lf [] = 0
+before-lf (b ∷ s) = pick (eqb b 10) 0 (suc (before-lf s))

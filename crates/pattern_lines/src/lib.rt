@@ -1,0 +1,79 @@
+// One call over a block of lines, so that tests and measures reach a prepared pattern from C.
+ghost use mathlib.Core.Path.{_≡_};
+ghost use Prim.Native.Nat.{_+_, _≤_};
+ghost use lib.ListN.{length, drop};
+ghost use Rattle.octets.specs.Lists.{pick};
+ghost use Rattle.pattern.specs.Prepared.{Ready};
+ghost use Rattle.pattern_lines.specs.Lines.{LinesTo, matched, before-lf};
+use pattern::Shape;
+use pattern::is_pattern;
+use pattern::prepare;
+use pattern::test;
+
+// Where the line that starts at a place ends.
+fn line_end(block: &[u8], from: usize) -> usize
+    requires { ⌜ from ≤ length (now block) ⌝ }
+    ensures { λ r. ⌜ r ≡ from + before-lf (drop from (now (block .entry))) ⌝ }
+{
+    let mut i = from;
+    while i < block.len() {
+        if block[i] == 10 {
+            return i;
+        }
+        i += 1;
+    }
+    i
+}
+
+fn one_if(b: bool) -> usize
+    ensures { λ r. ⌜ r ≡ pick b 1 0 ⌝ }
+{
+    if b { 1 } else { 0 }
+}
+
+// The lines that the prepared pattern matches.
+fn count(
+    h: Shape,
+    sets: &[[u64; 4]; 60],
+    before: &[u64; 60],
+    p: &[u8],
+    fold: bool,
+    block: &[u8],
+) -> usize
+    requires { ⌜ Ready fold (now p) h (now sets) (now before) ⌝ }
+    ensures { λ r. ⌜ r ≡ matched fold (now (p .entry)) (now (block .entry)) ⌝ }
+{
+    let mut n: usize = 0;
+    let mut at: usize = 0;
+    while at <= block.len() {
+        let end = line_end(block, at);
+        let m = test(h, sets, before, p, fold, &block[at..end]);
+        n += one_if(m);
+        at = end + 1;
+    }
+    n
+}
+
+// The pattern is read once for all lines.
+fn count_by(p: &[u8], fold: bool, block: &[u8]) -> usize
+    ensures { λ r. ⌜ r ≡ matched fold (now (p .entry)) (now (block .entry)) ⌝ }
+{
+    let none = [0u64; 4];
+    let mut sets = [none; 60];
+    let mut before = [0u64; 60];
+    let h = prepare(p, fold, &mut sets, &mut before);
+    count(h, &sets, &before, p, fold, block)
+}
+
+#[no_mangle]
+pub extern "C" fn pattern_lines(pattern: &[u8], fold: u32, block: &[u8], met: &mut u32) -> u32
+    ensures { λ r. ⌜ LinesTo (now (pattern .entry)) fold (now (block .entry)) r (now (met .exit)) ⌝ }
+{
+    if !is_pattern(pattern) {
+        *met = 0;
+        return 5;
+    }
+    let n = count_by(pattern, fold != 0, block);
+    *met = (n % 4294967296) as u32;
+    0
+}
