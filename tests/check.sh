@@ -1,7 +1,7 @@
 #!/bin/sh
 # The library from C: the header, the archive's names, document 01's worked images, the examples, threads, stack, garbage; then the
 # fixed cases of the second program and COUNT random ones from SEED, also through the plain C that the bench compares with.
-# The reading of requests from C: the parts of the second program's requests, and of 50,000 random ones.
+# Patterns from C, on three times as many blocks of lines; and the reading of requests, 50,000 random ones.
 # check.sh [SEED COUNT]
 set -eu
 cd "$(dirname "$0")/.."
@@ -26,6 +26,7 @@ compare() {
 }
 
 make_library ifc
+make_library pattern_lines
 make_library request_parts
 cargo build --release --offline --quiet --manifest-path second/Cargo.toml --target-dir "$out/second"
 second=$out/second/release/second
@@ -43,6 +44,10 @@ build cases "" tests/cases.c "$lib"
 compare cases
 build cases_plain "$plain" tests/cases.c bench/plain.c
 compare cases_plain
+build lines "" tests/lines.c target/staticlib/libpattern_lines.a
+"$second" lines make "$seed" "$((3 * count))" >"$out/made-lines"
+run lines "$out/made-lines" "$out/met"
+"$second" lines compare "$out/made-lines" "$out/met"
 build parts "" tests/parts.c target/staticlib/librequest_parts.a
 "$second" parts make "$seed" 50000 >"$out/requests"
 run parts "$out/requests" "$out/counts"

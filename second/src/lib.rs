@@ -6,6 +6,7 @@ pub mod case;
 pub mod criterion;
 pub mod files;
 pub mod image;
+pub mod lines;
 pub mod maker;
 pub mod matching;
 #[cfg(feature = "twists")]

@@ -1,7 +1,7 @@
-//! The commands: make, answer, compare, show, parts, mutants.
+//! The commands: make, answer, compare, show, parts, lines, mutants.
 
 use second::case::{self, Answer, Case};
-use second::{files, maker, parts, show};
+use second::{files, lines, maker, parts, show};
 use std::fs::File;
 use std::io::{self, BufWriter, Read, Write};
 use std::process::ExitCode;
@@ -12,6 +12,8 @@ second compare CASES ANSWERS
 second show N CASES
 second parts make SEED COUNT > requests
 second parts compare REQUESTS COUNTS
+second lines make SEED COUNT > lines
+second lines compare LINES ANSWERS
 second mutants [SEED COUNT]   (built with --features twists)";
 
 fn main() -> ExitCode {
@@ -25,6 +27,8 @@ fn main() -> ExitCode {
         ["compare", cases, answers] => compare(cases, answers),
         ["show", number, cases] => show_case(number, cases),
         ["parts", ref rest @ ..] => parts::run(rest),
+        ["lines", "make", seed, count] => make_lines(seed, count),
+        ["lines", "compare", lines, answers] => lines::compare(lines, answers),
         ["mutants"] => mutants("1", "4000"),
         ["mutants", seed, count] => mutants(seed, count),
         _ => Err(USAGE.to_string()),
@@ -71,6 +75,10 @@ fn make(seed: &str, count: &str) -> Done {
     let cases = maker::cases(number(seed)?, number(count)? as usize);
     words(files::write_cases(&mut BufWriter::new(io::stdout().lock()), &cases))?;
     Ok(true)
+}
+
+fn make_lines(seed: &str, count: &str) -> Done {
+    lines::make(number(seed)?, number(count)? as usize)
 }
 
 fn answer(cases: &str, answers: &str) -> Done {

@@ -61,7 +61,7 @@ pub fn cases() -> Vec<Case> {
 }
 
 /// The bytes of the pattern and their neighbours, each alone, and some longer texts.
-fn probes(pattern: &[u8]) -> Vec<Vec<u8>> {
+pub fn probes(pattern: &[u8]) -> Vec<Vec<u8>> {
     let mut bytes: Vec<u8> = pattern.to_vec();
     bytes.extend(pattern.iter().map(|byte| byte.wrapping_add(1)));
     bytes.extend(pattern.iter().map(|byte| byte.wrapping_sub(1)));
