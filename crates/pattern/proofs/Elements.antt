@@ -9,7 +9,7 @@ use native.Mathlib.Omega.{arith}
 use lib.Dec.{eqb, leb}
 use lib.ListN.{length, getD, drop, drop-of-length-le}
 use lib.Seq.{drop-drop}
-use borrow.Author.Tests.{eqb-true}
+use borrow.Author.Tests.{eqb-true, lt-leb}
 use Rattle.octets.specs.Lists.{pick, peek}
 use Rattle.octets.specs.Option.{_>>=_, holds}
 use Rattle.octets.proofs.Tests.{either}
@@ -171,14 +171,14 @@ module _ (s : List ℕ) (i : ℕ) (first : Bool) (n : ℕ) (c : Counted s i firs
   pub count-last : (t : Bool) → t ≡ (eqb (getD s i 0) 36 && eqb (i + 1) (length s)) → t ≡ true → leb n 60 ≡ is-pattern s
   count-last t q e = ap (λ (k : ℕ). leb k 60) (sym (add-zero n)) ∙ sym (ap (counted n) (body-last s i first h (sym q ∙ e))) ∙ c .left
 
-  module _ (r : Piece) (a : PieceAt (map-got (drawn false) (atom first (getD s i 0) (drop (i + 1) s))) s i r) (t : Bool)
+  module _ (build : Bool) (r : Piece) (a : PieceAt (map-got (drawn build) (atom first (getD s i 0) (drop (i + 1) s))) s i r) (t : Bool)
       (k : t ≡ (eqb (getD s i 0) 36 && eqb (i + 1) (length s))) (e : t ≡ false) where
     pub count-lost : r .end ≡ 0 → false ≡ is-pattern s
-    count-lost z = sym (ap (counted n) (body-lost s i first h false r a (sym k ∙ e) z)) ∙ c .left
+    count-lost z = sym (ap (counted n) (body-lost s i first h build r a (sym k ∙ e) z)) ∙ c .left
 
     pub count-more : (j : ℕ) → (r .end ≡ 0 → ⊥) → j ≡ pick (eqb (peek (drop (r .end) s)) 42) (r .end + 1) (r .end) → Counted s j false (n + 1)
     count-more j m q =
-        let g = body-more s i first h false r a (sym k ∙ e) m in
+        let g = body-more s i first h build r a (sym k ∙ e) m in
         let x = elem (eqb (peek (drop (r .end) s)) 42) (g .value) in
         let f : i < r .end = a .forward m in
         let l : n ≤ i = c .few in
@@ -190,3 +190,11 @@ module _ (s : List ℕ) (i : ℕ) (first : Bool) (n : ℕ) (c : Counted s i firs
           few = omega (arith, behind-ge (eqb (peek (drop (r .end) s)) 42) (r .end));
           inside = behind-le s (r .end) (a .inside);
         })
+
+-- more than 60 before i
+pub count-many : (s : List ℕ) (i : ℕ) (first : Bool) (n : ℕ) → Counted s i first n → 60 < n → false ≡ is-pattern s
+count-many s i first n c h = sym (go (body-of first (drop i s))) ∙ c .left
+  where
+    go : (o : Option Body) → counted n o ≡ false
+    go none = refl
+    go (some b) = lt-leb (n + length (b .parts)) 60 (omega arith)

@@ -19,7 +19,6 @@ use Rattle.pattern.specs.Places.{map-got, body-of, PieceAt}
 use Rattle.pattern.specs.Prepared.{starred, atom-of, no-marks, mark, before-at, marks, set-as, sets-of, befores, sets-after, befores-after, marks-of, ends-anchored, shape-by, no-shape, shape-of, FilledFor, Prepared, Ready}
 use Rattle.pattern.specs.Reading.{atom, elem, Body, read-pattern}
 use Rattle.pattern.specs.Drawn.{drawn}
-use Rattle.pattern.specs.declared.edition1.Filled.{Filled}
 use Rattle.pattern.specs.declared.edition1.Marks.{Marks}
 use Rattle.pattern.specs.declared.reader.Piece.{Piece}
 use Rattle.pattern.specs.declared.matcher.Shape.{Shape}
@@ -117,14 +116,14 @@ module _ (fold : Bool) (s : List ℕ) (w : Whole s) (old-sets : List (List ℕ))
     (i : ℕ) (first : Bool) (m : Marks) (ss : List (List ℕ)) (bs : List ℕ) (f : Filling fold s w old-sets old-before i first m ss bs) where
   -- nothing is left but the anchor
   done : (right : Bool) → body-of first (drop i s) ≡ some (record { parts = []; anchored = right })
-      → FilledFor fold (read-pattern s) (record { marks = m; right = right }) old-sets ss old-before bs
+      → FilledFor fold (read-pattern s) m right old-sets ss old-before bs
   done right e =
       let q : f .rest ≡ record { parts = []; anchored = right } =
       let z : _≡_ {A = Option Body} (some (f .rest)) (some (record { parts = []; anchored = right })) = sym (f .reads) ∙ e in cc
       in
       let p : f .rest .parts ≡ [] = ap (λ (b : Body). b .parts) q in
       let few : length (w .body .parts) ≤ 60 = w .few in
-      subst⁻¹ (λ (o : Option Pattern). FilledFor fold o (record { marks = m; right = right }) old-sets ss old-before bs) (w .is)
+      subst⁻¹ (λ (o : Option Pattern). FilledFor fold o m right old-sets ss old-before bs) (w .is)
       (record {
         all-marks = ap (marks m) (sym p) ∙ f .marked;
         anchored = sym (ap (λ (b : Body). b .anchored) q) ∙ f .right;
@@ -138,10 +137,10 @@ module _ (fold : Bool) (s : List ℕ) (w : Whole s) (old-sets : List (List ℕ))
         room-before = f .room-before;
       })
 
-  pub fill-end : length s ≤ i → FilledFor fold (read-pattern s) (record { marks = m; right = false }) old-sets ss old-before bs
+  pub fill-end : length s ≤ i → FilledFor fold (read-pattern s) m false old-sets ss old-before bs
   fill-end h = done false (body-end s i first h)
 
-  pub fill-last : i < length s → (eqb (getD s i 0) 36 && eqb (i + 1) (length s)) ≡ true → FilledFor fold (read-pattern s) (record { marks = m; right = true }) old-sets ss old-before bs
+  pub fill-last : i < length s → (eqb (getD s i 0) 36 && eqb (i + 1) (length s)) ≡ true → FilledFor fold (read-pattern s) m true old-sets ss old-before bs
   fill-last h e = done true (body-last s i first h e)
 
   module _ (h : i < length s) (r : Piece) (a : PieceAt (map-got (drawn true) (atom first (getD s i 0) (drop (i + 1) s))) s i r)
@@ -271,15 +270,15 @@ module _ (fold : Bool) (p : List ℕ) (r : Shape) (old-sets : List (List ℕ)) (
   unfolding is-pattern
   prepare-refused n z ls lb = refused (read-pattern p) refl (sym e ∙ not-true t n) z ls lb
 
-  pub prepare-on : (sets : List (List ℕ)) (before : List ℕ) (next : ℕ) (f : Filled) → not t ≡ false → next ≡ peek p
-      → FilledFor fold (read-pattern p) f old-sets sets old-before before → r ≡ shape-by (f .marks) (eqb next 94) (f .right)
+  pub prepare-on : (sets : List (List ℕ)) (before : List ℕ) (next : ℕ) (m : Marks) (right : Bool) → not t ≡ false → next ≡ peek p
+      → FilledFor fold (read-pattern p) m right old-sets sets old-before before → r ≡ shape-by m (eqb next 94) right
       → Prepared fold p r old-sets sets old-before before
-  prepare-on sets before next f n q g z =
+  prepare-on sets before next m right n q g z =
       let y : is-pattern p ≡ true = sym e ∙ not-false t n in
       let w = whole-of p (λ k. true≢false (sym y ∙ sym (count-empty p k))) y in
       record {
         shape =
-            z ∙ ap₂ (λ (m : Marks) (b : Bool). shape-by m (eqb next 94) b) (g .all-marks) (g .anchored)
+            z ∙ ap₂ (λ (k : Marks) (b : Bool). shape-by k (eqb next 94) b) (g .all-marks) (g .anchored)
             ∙ ap (λ (k : ℕ). shape-by (marks-of (read-pattern p)) (eqb k 94) (ends-anchored (read-pattern p))) q
             ∙ ap (λ (o : Option Pattern). shape-by (marks-of o) (eqb (peek p) 94) (ends-anchored o)) (w .is) ∙ ap shape-of (sym (w .is));
         lent-sets = g .lent-sets;

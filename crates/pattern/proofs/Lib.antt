@@ -10,6 +10,7 @@ pub mod Filling
 pub mod Finding
 pub mod Items
 pub mod Listing
+pub mod Loading
 pub mod Meaning
 pub mod Places
 pub mod Positions

@@ -9,9 +9,8 @@ use lib.ListN.{length, drop}
 use Rattle.octets.specs.Lists.{pick}
 use Rattle.pattern.specs.Pattern.{Atom, Elem, once, star, Pattern}
 use Rattle.pattern.specs.Reading.{read-pattern}
-use Rattle.pattern.specs.Answers.{meet-as}
+use Rattle.pattern.specs.Answers.{is-pattern, meet-as}
 use Rattle.pattern.specs.Sets.{words}
-use Rattle.pattern.specs.declared.edition1.Filled.{Filled}
 use Rattle.pattern.specs.declared.edition1.Marks.{Marks}
 use Rattle.pattern.specs.declared.matcher.Shape.{Shape}
 
@@ -95,7 +94,7 @@ abbrev pub befores-after : Option Pattern → List ℕ → List ℕ
 befores-after none old = old
 befores-after (some p) old = befores no-marks (p .elems) ++ drop (length (p .elems)) old
 
--- what `fill` answers of a pattern
+-- the elements' marks and the right anchor of a pattern
 abbrev pub marks-of : Option Pattern → Marks
 marks-of none = no-marks
 marks-of (some p) = marks no-marks (p .elems)
@@ -104,9 +103,10 @@ abbrev pub ends-anchored : Option Pattern → Bool
 ends-anchored none = false
 ends-anchored (some p) = p .at-end
 
-pub record FilledFor (fold : Bool) (o : Option Pattern) (r : Filled) (old-sets sets : List (List ℕ)) (old-before before : List ℕ) : Type 0 where
-  pub all-marks : r .marks ≡ marks-of o
-  pub anchored : r .right ≡ ends-anchored o
+-- what stands in the lent places and in the code's marks once every element is read
+pub record FilledFor (fold : Bool) (o : Option Pattern) (m : Marks) (right : Bool) (old-sets sets : List (List ℕ)) (old-before before : List ℕ) : Type 0 where
+  pub all-marks : m ≡ marks-of o
+  pub anchored : right ≡ ends-anchored o
   pub lent-sets : sets ≡ sets-after fold o old-sets
   pub lent-before : before ≡ befores-after o old-before
   pub room-sets : length sets ≡ 60
@@ -124,3 +124,8 @@ pub record Ready (fold : Bool) (p : List ℕ) (h : Shape) (sets : List (List ℕ
   pub old-sets : List (List ℕ)
   pub old-before : List ℕ
   pub prepared : Prepared fold p h old-sets sets old-before before
+
+-- what `load` leaves: with no pattern, a machine that takes no part whatever the lent places hold
+pub record Loaded (fold : Bool) (p : List ℕ) (h : Shape) (old-sets sets : List (List ℕ)) (old-before before : List ℕ) : Type 0 where
+  pub ready : Ready fold p h sets before
+  pub prepared : is-pattern p ≡ true → Prepared fold p h old-sets sets old-before before

@@ -1,14 +1,15 @@
 // Patterns of edition 1 as machines: a position for each element.
 ghost use mathlib.Core.Path.{_≡_};
 ghost use mathlib.Core.Bool.{true};
-ghost use Prim.Native.Nat.{_^_, _<_};
+ghost use mathlib.Core.List.{List};
+ghost use Prim.Native.Nat.{ℕ, _^_, _<_};
 ghost use lib.Bits.{bitOr};
 ghost use lib.ListN.{length};
 ghost use Rattle.octets.specs.Lists.{pick};
 ghost use Rattle.pattern.specs.Answers.{is-pattern};
 ghost use Rattle.pattern.specs.Drawn.{drawn};
 ghost use Rattle.pattern.specs.Pattern.{Atom};
-ghost use Rattle.pattern.specs.Prepared.{mark as marked, before-at, set-as, shape-by, no-shape, FilledFor};
+ghost use Rattle.pattern.specs.Prepared.{mark as marked, before-at, set-as, shape-by, no-shape, shape-of, Loaded};
 ghost use Rattle.pattern.specs.Reading.{read-pattern};
 use crate::matcher::Shape;
 use crate::reader::atom_at;
@@ -80,12 +81,6 @@ fn mark(m: Marks, repeats: bool) -> Marks
     }
 }
 
-// All elements, and whether `$` anchors the end.
-pub struct Filled {
-    pub marks: Marks,
-    pub right: bool,
-}
-
 // The set of an atom that was read, on a name (fold) or as written.
 fn set_as(fold: bool, set: [u64; 4]) -> [u64; 4]
     ensures { λ r. ⌜ ((a : Atom) → set ≡ drawn true a → r ≡ set-as fold a) ⌝ }
@@ -94,48 +89,6 @@ fn set_as(fold: bool, set: [u64; 4]) -> [u64; 4]
         return folded(set);
     }
     set
-}
-
-// The elements' sets and masks, written to the lent places one after the other.
-pub(crate) fn fill(
-    s: &[u8],
-    fold: bool,
-    sets: &mut [[u64; 4]; 60],
-    before: &mut [u64; 60],
-) -> Filled
-    requires { ⌜ (is-pattern (now s) ≡ true) × (length (now sets) ≡ 60) × (length (now before) ≡ 60) ⌝ }
-    ensures { λ r. ⌜ FilledFor fold (read-pattern (now (s .entry))) r (now (sets .entry)) (now (sets .exit)) (now (before .entry)) (now (before .exit)) ⌝ }
-{
-    let mut i = start_at(s);
-    let mut first = true;
-    let mut m = Marks {
-        at: 0,
-        run: 0,
-        lead: 0,
-        free: true,
-    };
-    while i < s.len() {
-        if is_anchor(s, i) {
-            return Filled {
-                marks: m,
-                right: true,
-            };
-        }
-        let a = atom_at(s, i, first, true);
-        let repeats = peek_at(s, a.end) == 42;
-        let at = m.at;
-        let read = a.set;
-        let set = set_as(fold, read);
-        sets[at] = set;
-        before[at] = before_at(m, repeats);
-        m = mark(m, repeats);
-        i = behind(s, a.end);
-        first = false;
-    }
-    Filled {
-        marks: m,
-        right: false,
-    }
 }
 
 fn unless(flag: bool, mask: u64) -> u64
@@ -148,7 +101,7 @@ fn unless(flag: bool, mask: u64) -> u64
 }
 
 // The machine of all elements, with the anchors `^` and `$`.
-pub(crate) fn shape_by(m: Marks, left: bool, right: bool) -> Shape
+fn shape_by(m: Marks, left: bool, right: bool) -> Shape
     ensures { λ r. ⌜ r ≡ shape-by m left right ⌝ }
 {
     let inner = unless(left, m.lead);
@@ -181,4 +134,54 @@ pub(crate) fn no_shape() -> Shape
         tail: false,
         middle: false,
     }
+}
+
+// Reads a pattern into the lent places in one go, element by element. A refused one gives a machine that takes no part; what the
+// lent places then hold is of no use.
+pub fn load(s: &[u8], fold: bool, sets: &mut [[u64; 4]; 60], before: &mut [u64; 60]) -> Shape
+    requires { ⌜ (length (now sets) ≡ 60) × (length (now before) ≡ 60) ⌝ }
+    ensures { λ r. ⌜ Loaded fold (now (s .entry)) r (now (sets .entry)) (now (sets .exit)) (now (before .entry)) (now (before .exit)) ⌝ }
+{
+    if s.len() == 0 {
+        return no_shape();
+    }
+    let left = peek_at(s, 0) == 94;
+    let mut i = start_at(s);
+    let mut first = true;
+    let mut m = Marks {
+        at: 0,
+        run: 0,
+        lead: 0,
+        free: true,
+    };
+    while i < s.len() {
+        if is_anchor(s, i) {
+            return shape_by(m, left, true);
+        }
+        let a = atom_at(s, i, first, true);
+        let end = a.end;
+        let at = m.at;
+        if end == 0 {
+            return no_shape();
+        }
+        if at == 60 {
+            return no_shape();
+        }
+        let repeats = peek_at(s, end) == 42;
+        let read = a.set;
+        let set = set_as(fold, read);
+        sets[at] = set;
+        before[at] = before_at(m, repeats);
+        m = mark(m, repeats);
+        i = behind(s, end);
+        first = false;
+    }
+    shape_by(m, left, false)
+}
+
+// Whether the string that was loaded is a pattern: the machine that takes no part has no position, and no empty part fits it.
+pub fn is_loaded(h: Shape) -> bool
+    ensures { λ r. ⌜ ((p : List ℕ) → h ≡ shape-of (read-pattern p) → r ≡ is-pattern p) ⌝ }
+{
+    (h.size != 0) | h.whole
 }

@@ -10,15 +10,14 @@ mod matcher;
 mod reader;
 mod sets;
 
-use crate::edition1::fill;
+pub use crate::edition1::is_loaded;
+pub use crate::edition1::load;
 use crate::edition1::no_shape;
-use crate::edition1::shape_by;
 pub use crate::matcher::Shape;
 use crate::matcher::leftmost;
 use crate::reader::atom_at;
 use crate::reader::behind;
 use crate::reader::is_anchor;
-use crate::reader::peek_at;
 use crate::reader::start_at;
 
 // Whether a string is a pattern. It is read once, and no set is made.
@@ -57,10 +56,7 @@ pub fn prepare(p: &[u8], fold: bool, sets: &mut [[u64; 4]; 60], before: &mut [u6
     if !is_pattern(p) {
         return no_shape();
     }
-    let left = peek_at(p, 0) == 94;
-    let f = fill(p, fold, sets, before);
-    let m = f.marks;
-    shape_by(m, left, f.right)
+    load(p, fold, sets, before)
 }
 
 // The smallest place at which a part of the text that fits begins, or one above the text's length. The pattern p and fold are those

@@ -6,8 +6,8 @@ ghost use Rattle.octets.specs.Lists.{pick};
 ghost use Rattle.pattern.specs.Prepared.{Ready};
 ghost use Rattle.pattern_lines.specs.Lines.{LinesTo, matched, before-lf};
 use pattern::Shape;
-use pattern::is_pattern;
-use pattern::prepare;
+use pattern::is_loaded;
+use pattern::load;
 use pattern::test;
 
 // Where the line that starts at a place ends.
@@ -55,25 +55,19 @@ fn count(
 }
 
 // The pattern is read once for all lines.
-fn count_by(p: &[u8], fold: bool, block: &[u8]) -> usize
-    ensures { λ r. ⌜ r ≡ matched fold (now (p .entry)) (now (block .entry)) ⌝ }
-{
-    let none = [0u64; 4];
-    let mut sets = [none; 60];
-    let mut before = [0u64; 60];
-    let h = prepare(p, fold, &mut sets, &mut before);
-    count(h, &sets, &before, p, fold, block)
-}
-
 #[no_mangle]
 pub extern "C" fn pattern_lines(pattern: &[u8], fold: u32, block: &[u8], met: &mut u32) -> u32
     ensures { λ r. ⌜ LinesTo (now (pattern .entry)) fold (now (block .entry)) r (now (met .exit)) ⌝ }
 {
-    if !is_pattern(pattern) {
+    let none = [0u64; 4];
+    let mut sets = [none; 60];
+    let mut before = [0u64; 60];
+    let h = load(pattern, fold != 0, &mut sets, &mut before);
+    if !is_loaded(h) {
         *met = 0;
         return 5;
     }
-    let n = count_by(pattern, fold != 0, block);
+    let n = count(h, &sets, &before, pattern, fold != 0, block);
     *met = (n % 4294967296) as u32;
     0
 }

@@ -3,21 +3,26 @@ use Rattle.pattern_lines.proofs.Answering.{refused, answered}
 use Rattle.pattern_lines.proofs.pattern_lines.Statement.{statement}
 use Rattle.pattern_lines.proofs.pattern_lines.Tie as tie
 
-is-pattern-requires : tie.Need-is-pattern-requires
-is-pattern-requires c κs = search needs
+load-requires : tie.Need-load-requires
+load-requires c κs = search needs
+
+is-loaded-requires : tie.Need-is-loaded-requires
+is-loaded-requires c κs = search needs
 
 returns : tie.Need-returns
-returns c = refused _ _ _ _ (c .before .is-pattern .ensures) (c .if1 .taken)
+returns c = refused _ _ _ _ (c .before .is-loaded .ensures _ (c .before .before .load .ensures .ready .prepared .shape)) (c .if1 .taken)
 
-count-by-requires : tie.Need-count-by-requires
-count-by-requires c κs = search needs
+count-requires : tie.Need-count-requires
+count-requires c κs = search needs
 
 cast-met : tie.Need-cast-met
 cast-met c = search needs
 
 returns-2 : tie.Need-returns-2
-returns-2 c = answered _ _ _ _ (c .before .before .is-pattern .ensures) (c .before .if1 .left) _ (c .count-by .ensures)
+returns-2 c =
+    answered _ _ _ _ (c .before .before .before .before .is-loaded .ensures _ (c .before .before .before .before .before .load .ensures .ready .prepared .shape))
+    (c .before .before .before .if1 .left) _ (c .count .ensures)
 
 pub pattern-lines-spec : {M : Type 1} → statement M
 pattern-lines-spec =
-    tie.close (tie.spec is-pattern-requires returns count-by-requires cast-met returns-2)
+    tie.close (tie.spec load-requires is-loaded-requires returns count-requires cast-met returns-2)

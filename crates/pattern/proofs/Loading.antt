@@ -1,0 +1,122 @@
+-- Reading into the lent places in one go: what is read is counted and stored at once, for a string that may turn out to be no pattern.
+use mathlib.Core.Path.{_≡_, refl, sym, ap, _∙_}
+use mathlib.Core.Bool.{Bool, true, false, not, _&&_, _||_, true≢false}
+use mathlib.Core.Option.{Option, none, some}
+use mathlib.Core.List.{List, [], _∷_}
+use Prim.Native.Nat.{ℕ, _+_, _<_, _≤_}
+use native.Mathlib.Omega.{arith}
+use lib.Dec.{eqb}
+use lib.ListN.{length, getD, drop, set, length-set}
+use borrow.Author.Tests.{le-leb, ne-eqb}
+use Rattle.octets.specs.Lists.{pick, peek}
+use Rattle.pattern.specs.Answers.{was-read, is-pattern}
+use Rattle.pattern.specs.Pattern.{Atom, Elem, Pattern}
+use Rattle.pattern.specs.Places.{map-got, PieceAt}
+use Rattle.pattern.specs.Prepared.{no-marks, mark, marks, before-at, set-as, shape-by, no-shape, shape-of, FilledFor, Loaded}
+use Rattle.pattern.specs.Reading.{atom, read-pattern}
+use Rattle.pattern.specs.Drawn.{drawn}
+use Rattle.pattern.specs.declared.edition1.Marks.{Marks}
+use Rattle.pattern.specs.declared.reader.Piece.{Piece}
+use Rattle.pattern.specs.declared.matcher.Shape.{Shape}
+use Rattle.pattern.proofs.Elements.{start-of, Counted, count-start, count-last, count-lost, count-more, count-many, count-done}
+use Rattle.pattern.proofs.Positions.{at-bit}
+use Rattle.pattern.proofs.Filling.{Fills, fill-start, fill-end, fill-last, fill-more, prepare-refused, prepare-on, prepared-ready}
+
+module _ (fold : Bool) (s : List ℕ) (old-sets : List (List ℕ)) (old-before : List ℕ) where
+  -- the elements before i are stored, and those from i on decide whether there is a pattern
+  pub record Loading (i : ℕ) (first : Bool) (m : Marks) (ss : List (List ℕ)) (bs : List ℕ) : Type 0 where
+    pub counts : Counted s i first (m .at)
+    pub fills : is-pattern s ≡ true → Fills fold s old-sets old-before i first m ss bs
+    pub low : m .at ≤ 60
+    pub room-sets : length ss ≡ 60
+    pub room-before : length bs ≡ 60
+
+  -- no pattern: the lent places are taken for what they hold
+  pub load-refused : (h : Shape) (ss : List (List ℕ)) (bs : List ℕ) → false ≡ is-pattern s → h ≡ no-shape → length ss ≡ 60 → length bs ≡ 60
+      → Loaded fold s h old-sets ss old-before bs
+  load-refused h ss bs e z ls lb =
+      record {
+        ready = prepared-ready fold s h ss ss bs bs (prepare-refused fold s h ss bs false e refl z ls lb);
+        prepared = λ y. absurd (true≢false (sym y ∙ sym e));
+      }
+
+  load-filled : (h : Shape) (next : ℕ) (m : Marks) (right : Bool) (ss : List (List ℕ)) (bs : List ℕ) → is-pattern s ≡ true → next ≡ peek s
+      → FilledFor fold (read-pattern s) m right old-sets ss old-before bs → h ≡ shape-by m (eqb next 94) right → Loaded fold s h old-sets ss old-before bs
+  load-filled h next m right ss bs y q g z =
+      let p = prepare-on fold s h old-sets old-before true (sym y) ss bs next m right refl q g z in
+      record { ready = prepared-ready fold s h old-sets ss old-before bs p; prepared = λ x. p }
+
+  module _ (ls : length old-sets ≡ 60) (lb : length old-before ≡ 60) where
+    pub load-start : (i : ℕ) → (length s ≡ 0 → ⊥) → i ≡ start-of s → Loading i true no-marks old-sets old-before
+    load-start i n e =
+        record {
+          counts = count-start s i n e;
+          fills = λ y. fill-start fold s old-sets old-before i y ls lb e;
+          low = omega arith;
+          room-sets = ls;
+          room-before = lb;
+        }
+
+    module _ (i : ℕ) (first : Bool) (m : Marks) (ss : List (List ℕ)) (bs : List ℕ) (l : Loading i first m ss bs) where
+      pub load-end : length s ≤ i → (h : Shape) (next : ℕ) → next ≡ peek s → h ≡ shape-by m (eqb next 94) false → Loaded fold s h old-sets ss old-before bs
+      load-end k h next q z =
+          let y : is-pattern s ≡ true = sym (count-done s i first (m .at) (l .counts) k) ∙ le-leb (m .at) 60 (l .low) in
+          let f = l .fills y in
+          load-filled h next m false ss bs y q (fill-end fold s (f .0) old-sets old-before ls lb i first m ss bs (f .1) k) z
+
+      module _ (k : i < length s) (t : Bool) (et : t ≡ (eqb (getD s i 0) 36 && eqb (i + 1) (length s))) where
+        pub load-last : t ≡ true → (h : Shape) (next : ℕ) → next ≡ peek s → h ≡ shape-by m (eqb next 94) true → Loaded fold s h old-sets ss old-before bs
+        load-last e h next q z =
+            let y : is-pattern s ≡ true = sym (count-last s i first (m .at) (l .counts) k t et e) ∙ le-leb (m .at) 60 (l .low) in
+            let f = l .fills y in
+            load-filled h next m true ss bs y q (fill-last fold s (f .0) old-sets old-before ls lb i first m ss bs (f .1) k (sym et ∙ e)) z
+
+        module _ (r : Piece) (a : PieceAt (map-got (drawn true) (atom first (getD s i 0) (drop (i + 1) s))) s i r) (e : t ≡ false) where
+          pub load-lost : r .end ≡ 0 → (h : Shape) → h ≡ no-shape → Loaded fold s h old-sets ss old-before bs
+          load-lost z h q = load-refused h ss bs (count-lost s i first (m .at) (l .counts) k true r a t et e z) q (l .room-sets) (l .room-before)
+
+          module _ (n : r .end ≡ 0 → ⊥) where
+            abbrev repeats : Bool
+            repeats = eqb (peek (drop (r .end) s)) 42
+
+            abbrev j : ℕ
+            j = pick repeats (r .end + 1) (r .end)
+
+            counts-on : (i′ : ℕ) → i′ ≡ j → Counted s i′ false (m .at + 1)
+            counts-on i′ q = count-more s i first (m .at) (l .counts) k true r a t et e i′ n q
+
+            pub load-many : m .at ≡ 60 → (h : Shape) → h ≡ no-shape → Loaded fold s h old-sets ss old-before bs
+            load-many full h q = load-refused h ss bs (count-many s j false (m .at + 1) (counts-on j refl) (omega arith)) q (l .room-sets) (l .room-before)
+
+            pub load-room : (m .at ≡ 60 → ⊥) → m .at < 60
+            load-room free = let w : m .at ≤ 60 = l .low in omega arith
+
+            pub load-more : (m .at ≡ 60 → ⊥) → (i′ : ℕ) (m′ : Marks) (u : List ℕ) (v : ℕ) (b : Bool) → ((x : Atom) → r .set ≡ drawn true x → u ≡ set-as fold x) → b ≡ repeats
+                → i′ ≡ j → m′ ≡ mark m b → v ≡ before-at m b → Loading i′ false m′ (set ss (m .at) u) (set bs (m .at) v)
+            load-more free i′ m′ u v b eu eb ei em ev =
+                let one : m′ .at ≡ m .at + 1 = ap (λ (x : Marks). x .at) em in
+                record {
+                  counts = counts-at i′ ei (m′ .at) one;
+                  fills = λ y. let f = l .fills y in
+                      (f .0, fill-more fold s (f .0) old-sets old-before ls lb i first m ss bs (f .1) k r a (sym et ∙ e) i′ m′ u v b eu eb ei em ev);
+                  low = omega (arith, load-room free);
+                  room-sets = length-set ss (m .at) u ∙ l .room-sets;
+                  room-before = length-set bs (m .at) v ∙ l .room-before;
+                }
+              where
+                counts-at : (i′ : ℕ) → i′ ≡ j → (w : ℕ) → w ≡ m .at + 1 → Counted s i′ false w
+                counts-at i′ ei w q = rw q (counts-on i′ ei)
+
+-- ---- what the machine tells
+
+pub shape-tells : (h : Shape) (p : List ℕ) → h ≡ shape-of (read-pattern p) → (not (eqb (h .size) 0) || h .whole) ≡ is-pattern p
+unfolding is-pattern
+shape-tells h p e = ap (λ (x : Shape). not (eqb (x .size) 0) || x .whole) e ∙ go (read-pattern p)
+  where
+    told : (es : List Elem) → (not (eqb (marks no-marks es .at) 0) || marks no-marks es .free) ≡ true
+    told [] = refl
+    told (x ∷ es) = ap (λ (b : Bool). not b || marks no-marks (x ∷ es) .free) (ne-eqb (marks no-marks (x ∷ es) .at) 0 (λ z. absurd (omega (arith, at-bit no-marks (x ∷ es), z))))
+
+    go : (o : Option Pattern) → (not (eqb (shape-of o .size) 0) || shape-of o .whole) ≡ was-read o
+    go none = refl
+    go (some x) = told (x .elems)
