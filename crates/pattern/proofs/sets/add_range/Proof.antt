@@ -1,5 +1,5 @@
 use borrow.Author.Needs.{needs}
-use Rattle.pattern.proofs.Words.{Ranged, ranged-none, ranged-more, ranged-all}
+use Rattle.pattern.proofs.Words.{add-word, Ranged, ranged-none, ranged-more, ranged-all}
 use Prim.Native.Nat.{_-_, _≤_}
 use native.Mathlib.Omega.{arith}
 use Rattle.pattern.proofs.sets.add_range.Statement.{statement}
@@ -17,11 +17,20 @@ add-end c = omega arith
 loop-holds : tie.Need-loop-holds Inv-loop μ-loop
 loop-holds c = (omega arith, ranged-none (c .args .set) (c .args .lo))
 
-cast-add-byte : tie.Need-cast-add-byte Inv-loop μ-loop
-cast-add-byte c = omega arith
+mul-s : tie.Need-mul-s Inv-loop μ-loop
+mul-s c = search needs
 
-add-byte-requires : tie.Need-add-byte-requires Inv-loop μ-loop
-add-byte-requires c κs = search needs
+array-read-s : tie.Need-array-read-s Inv-loop μ-loop
+array-read-s c = search needs
+
+shl-s : tie.Need-shl-s Inv-loop μ-loop
+shl-s c = search needs
+
+mul-s-2 : tie.Need-mul-s-2 Inv-loop μ-loop
+mul-s-2 c = search needs
+
+array-write-s : tie.Need-array-write-s Inv-loop μ-loop
+array-write-s c = search needs
 
 add-k : tie.Need-add-k Inv-loop μ-loop
 add-k c = search needs
@@ -30,7 +39,9 @@ loop-less : tie.Need-loop-less Inv-loop μ-loop
 loop-less c = search needs
 
 loop-again : tie.Need-loop-again Inv-loop μ-loop
-loop-again c = (omega arith, ranged-more (c .before .before .loop .inv .1) (c .add-byte .ensures))
+loop-again c =
+    let l = c .before .loop in
+    (omega arith, ranged-more (l .inv .1) (λ f e. add-word f (l .k) (omega arith) (l .s) e))
 
 returns : tie.Need-returns Inv-loop μ-loop
 returns c = ranged-all _ _ _ _ _ (c .before .loop .inv .1) (omega arith)
@@ -43,8 +54,11 @@ add-range-spec =
     μ-loop
     add-end
     loop-holds
-    cast-add-byte
-    add-byte-requires
+    mul-s
+    array-read-s
+    shl-s
+    mul-s-2
+    array-write-s
     add-k
     loop-less
     loop-again
