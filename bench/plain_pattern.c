@@ -107,8 +107,9 @@ static int prepare(const uint8_t *pattern, size_t length, uint32_t fold, struct 
     return 1;
 }
 
+/* From the end, to the first place where a part begins. */
 static int matches(const struct machine *m, const uint8_t *text, size_t n) {
-    size_t best = (n ? m->tail : m->whole) ? n : n + 1;
+    if (n ? m->tail : m->whole) return 1;
     uint64_t next = 0;
     for (size_t i = n; i-- > 0;) {
         uint64_t left = next | (i + 1 == n ? m->ends : m->stops), live = 0;
@@ -121,9 +122,9 @@ static int matches(const struct machine *m, const uint8_t *text, size_t n) {
                 next |= m->before[p];
             }
         }
-        if ((i ? m->middle : m->head) || (i ? m->inner : m->start) & live) best = i;
+        if ((i ? m->middle : m->head) || (i ? m->inner : m->start) & live) return 1;
     }
-    return best <= n;
+    return 0;
 }
 
 uint32_t plain_lines(const uint8_t *pattern, size_t pattern_len, uint32_t fold, const uint8_t *block, size_t block_len, uint32_t *met) {

@@ -15,7 +15,7 @@ use Rattle.octets.specs.Lists.{pick}
 use Rattle.octets.proofs.Bits.{bit-zero}
 use Rattle.octets.proofs.Tests.{left, right}
 use Rattle.pattern.specs.Answers.{meet-as}
-use Rattle.pattern.specs.Machine.{Machine, Live, live-end, live-on, Starts, starts-none, starts-live, Leftmost, first-mask, last-mask, met, machine-of}
+use Rattle.pattern.specs.Machine.{Machine, Live, live-end, live-on, Starts, starts-none, starts-live, StartsAt, Leftmost, first-mask, last-mask, met, machine-of}
 use Rattle.pattern.specs.Pattern.{Atom, Elem, meets}
 use Rattle.pattern.specs.Prepared.{atom-of, no-marks, marks, set-as, sets-of, befores, shape-by}
 use Rattle.pattern.specs.Sets.{in-set}
@@ -58,6 +58,9 @@ module _ {M N : Machine} (g : Agree M N) where
 
 bytes-drop : (l : List ℕ) (j : ℕ) → Bytes l → Bytes (drop j l)
 bytes-drop l j h i = subst (λ (n : ℕ). n < 256) (sym (getD-drop j l i 0)) (h (j + i))
+
+pub starts-at-agree : {M N : Machine} (s : List ℕ) (j : ℕ) → Agree M N → Bytes s → StartsAt M s j → StartsAt N s j
+starts-at-agree s j g h v = starts-agree g v (bytes-drop s j h)
 
 pub leftmost-agree : {M N : Machine} (s : List ℕ) (r : ℕ) → Agree M N → Bytes s → Leftmost M s r → Leftmost N s r
 leftmost-agree s r g h l = record {

@@ -12,14 +12,14 @@ use Rattle.octets.specs.Lists.{pick}
 use Rattle.octets.proofs.Bits.{bit-zero}
 use Rattle.octets.proofs.Tests.{both, left, right, or-left, or-right, or-cases, T-of, not-T-of, is-true}
 use Rattle.pattern.specs.Answers.{was-read, is-pattern, matches-as, read-matches, meets-text, outcome-of, outcome, meet-as, fits-from, smallest, first-of, first-fit}
-use Rattle.pattern.specs.Machine.{Starts, starts-none, starts-live, Leftmost, machine-of}
+use Rattle.pattern.specs.Machine.{Starts, starts-none, starts-live, StartsAt, Leftmost, Found, machine-of}
 use Rattle.pattern.specs.Matching.{front, somewhere, matches, written-matches, name-matches}
 use Rattle.pattern.specs.Pattern.{Elem, Pattern}
 use Rattle.pattern.specs.Prepared.{no-shape, shape-of, sets-after, befores-after, Ready}
 use Rattle.pattern.specs.Reading.{read-pattern}
 use Rattle.pattern.specs.declared.Outcome.the-variants.{No, Yes, Refuse}
 use Rattle.pattern.specs.declared.matcher.Shape.{Shape}
-use Rattle.pattern.proofs.Agreeing.{Bytes, leftmost-agree, pattern-agrees}
+use Rattle.pattern.proofs.Agreeing.{Bytes, starts-at-agree, leftmost-agree, pattern-agrees}
 use Rattle.pattern.proofs.Compiled.{compiled, starts-front, front-starts}
 
 -- ---- the smallest
@@ -198,6 +198,36 @@ first-meets fold p t = go (read-pattern p)
 
 pub place-meets : (fold : Bool) (p t : List ℕ) (r : ℕ) → r ≡ first-fit fold p t → leb r (length t) ≡ meets-text fold p t
 place-meets fold p t r e = ap (λ (n : ℕ). leb n (length t)) e ∙ first-meets fold p t
+
+-- ---- whether a part was found
+
+module _ (fold : Bool) (t : List ℕ) (bytes : Bytes t) where
+  -- where a part begins, the pattern matches
+  met-at : (o : Option Pattern) (old-sets : List (List ℕ)) (old-before : List ℕ) (j : ℕ)
+      → StartsAt (machine-of (shape-of o) (sets-after fold o old-sets) (befores-after o old-before)) t j → read-matches fold o t ≡ true
+  met-at none old-sets old-before j v = absurd (nothing fold t 0 bytes old-sets old-before (eqb j 0) (drop j t) v)
+  met-at (some p) old-sets old-before j v =
+      let a = pattern-agrees fold (p .at-start) (p .at-end) (p .elems) (drop (length (p .elems)) old-sets) (drop (length (p .elems)) old-before) in
+      let f = starts-front (meet-as fold) (p .at-start) (p .at-end) (p .elems) (eqb j 0) (drop j t) (starts-at-agree t j a bytes v) in
+      let w = fits-whole fold (p .at-start) (p .at-end) (p .elems) t j (p .at-start)
+      (both (not (p .at-start) || eqb j 0) (front (meet-as fold) (p .at-end) (p .elems) (drop j t)) (f .0) (f .1)) in
+      sym (matches-is fold (p .at-start) (p .at-end) (p .elems) t) ∙ is-true (whole fold (p .at-start) (p .at-end) (p .elems) t (p .at-start)) w
+
+  module _ (p : List ℕ) (h : Shape) (sets : List (List ℕ)) (before : List ℕ) (ready : Ready fold p h sets before) where
+    met-ready : (j : ℕ) → StartsAt (machine-of h sets before) t j → meets-text fold p t ≡ true
+    unfolding meets-text
+    met-ready j v =
+        let q = ready .prepared in
+        met-at (read-pattern p) (ready .old-sets) (ready .old-before) j
+        (subst (λ (x : List ℕ). StartsAt (machine-of (shape-of (read-pattern p)) (sets-after fold (read-pattern p) (ready .old-sets)) x) t j) (q .lent-before)
+        (subst (λ (x : List (List ℕ)). StartsAt (machine-of (shape-of (read-pattern p)) x before) t j) (q .lent-sets)
+        (subst (λ (x : Shape). StartsAt (machine-of x sets before) t j) (q .shape) v)))
+
+    pub found-meets : (r : Bool) → Found (machine-of h sets before) t r → r ≡ meets-text fold p t
+    found-meets true f = let y = f .yes refl in sym (met-ready (y .0) (y .2))
+    found-meets false f =
+        sym (lt-leb (length t + 1) (length t) (omega arith))
+        ∙ place-meets fold p t (length t + 1) (found-first fold t (length t + 1) bytes p h sets before ready (f .no refl))
 
 -- ---- the answer in one word
 

@@ -1,6 +1,6 @@
 -- A scan from the end keeps, as bits, the positions that are live before what has been read.
 use mathlib.Core.Path.{_≡_, refl, sym, ap, _∙_, subst, subst⁻¹}
-use mathlib.Core.Bool.{Bool, true, false, not, _&&_, _||_}
+use mathlib.Core.Bool.{Bool, true, false, not, _&&_, _||_, true≢false}
 use mathlib.Core.List.{List, [], _∷_}
 use Prim.Native.Nat.{ℕ, _+_, _<_, _≤_}
 use native.Mathlib.Omega.{arith}
@@ -13,7 +13,7 @@ use Rattle.octets.specs.Bits.{bit}
 use Rattle.octets.specs.Lists.{pick, empty}
 use Rattle.octets.proofs.Bits.{bit-zero, bit-or, common, share}
 use Rattle.octets.proofs.Tests.{T-of, not-T-of, both, left, right, or-left, or-right, or-cases}
-use Rattle.pattern.specs.Machine.{Machine, Live, live-end, live-on, Starts, starts-none, starts-live, StartsAt, Leftmost, first-mask, last-mask, null-at, met, machine-of, Stepped}
+use Rattle.pattern.specs.Machine.{Machine, Live, live-end, live-on, Starts, starts-none, starts-live, StartsAt, Leftmost, Found, first-mask, last-mask, null-at, met, machine-of, Stepped}
 use Rattle.pattern.specs.Sets.{in-set}
 use Rattle.pattern.specs.declared.matcher.Shape.{Shape}
 use Rattle.pattern.proofs.Places.{drop-at, empty-at}
@@ -226,3 +226,28 @@ module _ (h : Shape) (sets : List (List ℕ)) (before : List ℕ) (text : List �
         before = λ j. s .place .before j (omega arith);
         found = s .place .found;
       }
+
+  -- ---- the scan that ends at the first place
+
+  found-at : (i next r : ℕ) → Scan h sets before text i next r → r ≤ length text → Found M text true
+  found-at i next r s l = record { yes = λ e. (r, l, s .place .found l); no = λ e. absurd (true≢false e) }
+
+  module _ (i j next stop live′ next′ : ℕ) (d : i ≡ j + 1) (s : Scan h sets before text i next (length text + 1)) (e : stop ≡ last-mask h (eqb i (length text)))
+      (w : Stepped sets before (h .size) (bitOr next stop) (getD text j 0) 0 live′ next′) where
+    pub found-hit : (t : Bool) → t ≡ tested j false live′ → t ≡ true → Found M text true
+    found-hit t f q =
+        let k : i ≤ length text = s .inside in
+        found-at j next′ j (scan-hit i j next (length text + 1) stop live′ next′ d s e w t f q) (omega arith)
+
+    pub found-miss : (t : Bool) → t ≡ tested j false live′ → t ≡ false → Scan h sets before text j next′ (length text + 1)
+    found-miss t f q = scan-miss i j next (length text + 1) stop live′ next′ d s e w t f q
+
+  module _ (t : Bool) (f : t ≡ tested (length text) true 0) where
+    pub found-end : t ≡ true → Found M text true
+    found-end q = found-at (length text) 0 (length text) (scan-end (length text) (sym (ap (λ (b : Bool). pick b (length text) (length text + 1)) (sym f ∙ q)))) (omega arith)
+
+    pub found-first-miss : t ≡ false → Scan h sets before text (length text) 0 (length text + 1)
+    found-first-miss q = scan-end (length text + 1) (sym (ap (λ (b : Bool). pick b (length text) (length text + 1)) (sym f ∙ q)))
+
+  pub found-none : (i next : ℕ) → i ≤ 0 → Scan h sets before text i next (length text + 1) → Found M text false
+  found-none i next z s = record { yes = λ e. absurd (true≢false (sym e)); no = λ e. scan-all i next (length text + 1) z s }

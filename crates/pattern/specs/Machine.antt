@@ -1,6 +1,6 @@
 -- A machine of at most 60 positions, and where a part of a text that it takes begins. It knows no edition of patterns.
 use mathlib.Core.Path.{_≡_}
-use mathlib.Core.Bool.{Bool, not, _&&_}
+use mathlib.Core.Bool.{Bool, true, false, not, _&&_}
 use mathlib.Core.List.{List, [], _∷_}
 use Prim.Native.Nat.{ℕ, _+_, _<_, _≤_}
 use lib.Dec.{T, eqb, ltb}
@@ -40,6 +40,11 @@ pub record Leftmost (M : Machine) (s : List ℕ) (r : ℕ) : Type 0 where
   pub within : r ≤ length s + 1
   pub before : (j : ℕ) → j < r → j ≤ length s → StartsAt M s j → ⊥
   pub found : r ≤ length s → StartsAt M s r
+
+-- whether a part begins somewhere: if so, at some place of the text; if not, the smallest place lies behind it
+pub record Found (M : Machine) (s : List ℕ) (r : Bool) : Type 0 where
+  pub yes : r ≡ true → (j : ℕ) × (j ≤ length s) × StartsAt M s j
+  pub no : r ≡ false → Leftmost M s (length s + 1)
 
 -- ---- the machine that the code holds: masks, a set and a mask of what may stand before it for each position
 

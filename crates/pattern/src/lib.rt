@@ -14,6 +14,7 @@ pub use crate::edition1::is_loaded;
 pub use crate::edition1::load;
 use crate::edition1::no_shape;
 pub use crate::matcher::Shape;
+use crate::matcher::found;
 use crate::matcher::leftmost;
 use crate::reader::atom_at;
 use crate::reader::behind;
@@ -75,7 +76,7 @@ pub fn first_match(
     leftmost(h, sets, before, text)
 }
 
-// Whether the prepared pattern matches the text.
+// Whether the prepared pattern matches the text. The pattern p and fold are named for the promise alone.
 pub fn test(
     h: Shape,
     sets: &[[u64; 4]; 60],
@@ -87,7 +88,7 @@ pub fn test(
     requires { ⌜ Ready fold (now p) h (now sets) (now before) ⌝ }
     ensures { λ r. ⌜ r ≡ meets-text fold (now (p .entry)) (now (text .entry)) ⌝ }
 {
-    first_match(h, sets, before, p, fold, text) <= text.len()
+    found(h, sets, before, text)
 }
 
 pub enum Outcome {

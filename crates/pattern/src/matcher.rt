@@ -7,7 +7,7 @@ ghost use lib.Bits.{bitAnd};
 ghost use lib.Dec.{eqb};
 ghost use lib.ListN.{getD};
 ghost use Rattle.octets.specs.Lists.{pick};
-ghost use Rattle.pattern.specs.Machine.{Stepped, Leftmost, first-mask, last-mask, null-at, machine-of};
+ghost use Rattle.pattern.specs.Machine.{Stepped, Leftmost, Found, first-mask, last-mask, null-at, machine-of};
 ghost use Rattle.pattern.specs.Sets.{in-set};
 
 // Which positions may begin a part, at the text's start or elsewhere; which may end one, at the text's end or elsewhere; and
@@ -137,4 +137,28 @@ pub(crate) fn leftmost(h: Shape, sets: &[[u64; 4]; 60], before: &[u64; 60], text
         }
     }
     best
+}
+
+// Whether some part of the text fits: the same scan, which ends at the first place that it finds.
+pub(crate) fn found(h: Shape, sets: &[[u64; 4]; 60], before: &[u64; 60], text: &[u8]) -> bool
+    requires { ⌜ h .size ≤ 60 ⌝ }
+    ensures { λ r. ⌜ Found (machine-of h (now (sets .entry)) (now (before .entry))) (now (text .entry)) r ⌝ }
+{
+    let end = text.len();
+    let size = h.size;
+    if begins(h, end == 0, true, 0) {
+        return true;
+    }
+    let mut next: u64 = 0;
+    let mut i = end;
+    while 0 < i {
+        let stop = last_of(h, i == end);
+        i -= 1;
+        let f = step(sets, before, size, next | stop, text[i]);
+        next = f.next;
+        if begins(h, i == 0, false, f.live) {
+            return true;
+        }
+    }
+    false
 }

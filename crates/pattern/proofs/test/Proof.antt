@@ -1,13 +1,15 @@
-use borrow.Author.Needs.{needs}
-use Rattle.pattern.proofs.Finding.{place-meets}
+use Rattle.pattern.proofs.Finding.{found-meets}
+use Rattle.pattern.proofs.Filling.{ready-few}
 use Rattle.pattern.proofs.test.Statement.{statement}
 use Rattle.pattern.proofs.test.Tie as tie
 
-first-match-requires : tie.Need-first-match-requires
-first-match-requires c κs = search needs
+found-requires : tie.Need-found-requires
+found-requires c κs = ready-few _ _ _ _ _ (c .before .before .pre)
 
 returns : tie.Need-returns
-returns c = search place-meets
+returns c =
+    found-meets _ (c .before .before .before .args .text .now) (λ i. c .before .shared-slice-known2 .given i .fits) _ _ _ _ (c .before .before .before .pre) _
+    (c .found .ensures)
 
 pub test-spec : {M : Type 1} → statement M
-test-spec = tie.close (tie.spec first-match-requires returns)
+test-spec = tie.close (tie.spec found-requires returns)
