@@ -1,11 +1,11 @@
 -- Laws of a number's bits and of masks, for any width.
-use mathlib.Core.Path.{_≡_, refl, sym, ap, _∙_, subst⁻¹}
+use mathlib.Core.Path.{_≡_, refl, sym, ap, ap₂, _∙_, subst⁻¹}
 use mathlib.Core.Bool.{Bool, true, false, not, _&&_, _||_, true≢false, or-true, or-false, and-true, and-false}
 use Prim.Native.Nat.{ℕ, zero, suc, _+_, _*_, _-_, _/_, _%_, _^_, _<_, _≤_, min, max}
 use native.Mathlib.Omega.{arith}
-use native.Mathlib.Nat.{mod-lt, mul-add-mod-self-right, mul-mod-left, mod-eq-of-lt, min-le-left, lt-of-le-of-lt, div-eq-of-lt, zero-div, pow-suc, div-self, div-one, add-comm, div-lt-iff-lt-mul, div-add-mod', le-refl, one-mul, mul-assoc, lt-of-lt-of-le, zero-add}
+use native.Mathlib.Nat.{mod-lt, mul-add-mod-self-right, mul-mod-left, mod-eq-of-lt, min-le-left, lt-of-le-of-lt, div-eq-of-lt, zero-div, pow-suc, div-self, div-one, add-comm, div-lt-iff-lt-mul, div-add-mod', le-refl, one-mul, mul-assoc, lt-of-lt-of-le, zero-add, add-zero}
 use native.Mathlib.Numerals.{add-one}
-use lib.Bits.{bitAnd, bitOr, bitXor, differ, and-step, or-step, xor-step, and-shr, or-shr, xor-shr, and-mask, and-le-r, xor-add-and, or-shifted-r}
+use lib.Bits.{bitAnd, bitOr, bitXor, differ, and-step, or-step, xor-step, and-shr, or-shr, xor-shr, and-mask, and-self, and-le-r, xor-add-and, or-shifted-r}
 use lib.Count.{trailingZeros, under}
 use lib.Dec.{T, T-not, eqb, ltb}
 use lib.Pow.{pow-pos, pow-lt, pow-mono, pow-add, shl-shr, shr-shr}
@@ -225,12 +225,10 @@ bit-drop n p k e = bit-xor n (2 ^ p) k ∙ ap (λ (x : Bool). pick x (not (bit n
         ap not f ∙ sym (ap (λ (x : Bool). x && false) f)
     go false t = sym (and-true (bit n k))
 
-pub drop-lt : (n p : ℕ) → bit n p ≡ true → bitXor n (2 ^ p) < n
-drop-lt n p e =
-    let a : bitAnd n (2 ^ p) ≡ 2 ^ p =
+-- a bit that is set, alone
+and-pow : (n p : ℕ) → bit n p ≡ true → bitAnd n (2 ^ p) ≡ 2 ^ p
+and-pow n p e =
     bit-ext (suc p) (bitAnd n (2 ^ p)) (2 ^ p) (lt-of-le-of-lt (and-le-r n (2 ^ p)) (pow-lt (lt-suc p))) (pow-lt (lt-suc p)) (λ k h. same k)
-    in
-    omega (arith, xor-add-and n (2 ^ p), a, pow-pos p)
   where
     lt-suc : (k : ℕ) → k < suc k
     lt-suc k = omega arith
@@ -241,6 +239,44 @@ drop-lt n p e =
         go : (t : Bool) → eqb k p ≡ t → (bit n k && t) ≡ t
         go true t = ap (λ (x : Bool). x && true) (ap (λ (x : ℕ). bit n x) (eqb-true k p t) ∙ e)
         go false t = and-false (bit n k)
+
+pub drop-lt : (n p : ℕ) → bit n p ≡ true → bitXor n (2 ^ p) < n
+drop-lt n p e = omega (arith, xor-add-and n (2 ^ p), and-pow n p e, pow-pos p)
+
+-- the lowest bit taken away, `n & (n - 1)`
+lowest-gone : (w n : ℕ) → n < 2 ^ w → (n ≡ 0 → ⊥) → bitAnd n (n - 1) + 2 ^ trailingZeros w n ≡ n
+unfolding trailingZeros
+lowest-gone zero n h z = absurd (z (omega arith))
+lowest-gone (suc w) n h z = go (n % 2) refl (λ m. lowest-gone w (n / 2) (half-lt w n h) m)
+  where
+    odd : n % 2 ≡ 1 → bitAnd n (n - 1) ≡ n / 2 * 2
+    odd e =
+        let d : (n - 1) / 2 ≡ n / 2 = omega (arith, div-add-mod' n 2, div-add-mod' (n - 1) 2, mod-lt (n - 1) two-pos) in
+        let m : (n - 1) % 2 ≡ 0 = omega (arith, div-add-mod' n 2, div-add-mod' (n - 1) 2, mod-lt (n - 1) two-pos) in
+        and-step n (n - 1) ∙ ap (λ (x : ℕ). bitAnd (n / 2) x * 2 + min (n % 2) ((n - 1) % 2)) d
+        ∙ ap (λ (x : ℕ). x * 2 + min (n % 2) ((n - 1) % 2)) (and-self (n / 2)) ∙ ap₂ (λ (x y : ℕ). n / 2 * 2 + min x y) e m ∙ add-zero (n / 2 * 2)
+
+    even : n % 2 ≡ 0 → bitAnd n (n - 1) ≡ bitAnd (n / 2) (n / 2 - 1) * 2
+    even e =
+        let d : (n - 1) / 2 ≡ n / 2 - 1 = omega (arith, z, div-add-mod' n 2, div-add-mod' (n - 1) 2, mod-lt (n - 1) two-pos) in
+        let m : (n - 1) % 2 ≡ 1 = omega (arith, z, div-add-mod' n 2, div-add-mod' (n - 1) 2, mod-lt (n - 1) two-pos) in
+        and-step n (n - 1) ∙ ap (λ (x : ℕ). bitAnd (n / 2) x * 2 + min (n % 2) ((n - 1) % 2)) d
+        ∙ ap₂ (λ (x y : ℕ). bitAnd (n / 2) (n / 2 - 1) * 2 + min x y) e m ∙ add-zero (bitAnd (n / 2) (n / 2 - 1) * 2)
+
+    go : (r : ℕ) → n % 2 ≡ r → ((n / 2 ≡ 0 → ⊥) → bitAnd (n / 2) (n / 2 - 1) + 2 ^ trailingZeros w (n / 2) ≡ n / 2)
+        → bitAnd n (n - 1) + 2 ^ under r (trailingZeros w (n / 2)) ≡ n
+    go zero e ih =
+        let half = ih (λ q. z (omega (arith, div-add-mod' n 2))) in
+        omega (arith, half, even e, pow-suc 2 (trailingZeros w (n / 2)), div-add-mod' n 2)
+    go (suc r) e ih =
+        let one : n % 2 ≡ 1 = omega (arith, mod-lt n two-pos) in
+        omega (arith, odd one, one, div-add-mod' n 2)
+
+pub lowest-drop : (w n p : ℕ) → n < 2 ^ w → (n ≡ 0 → ⊥) → p ≡ trailingZeros w n → bitAnd n (n - 1) ≡ bitXor n (2 ^ p)
+lowest-drop w n p h z e =
+    let s : bit n p ≡ true = ap (bit n) e ∙ lowest-set w n h z in
+    let g : bitAnd n (n - 1) + 2 ^ p ≡ n = ap (λ (q : ℕ). bitAnd n (n - 1) + 2 ^ q) e ∙ lowest-gone w n h z in
+    omega (arith, g, xor-add-and n (2 ^ p), and-pow n p s)
 
 -- ---- bits in common, as code tests them: `f & s != 0`
 

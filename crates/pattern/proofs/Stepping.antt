@@ -2,15 +2,15 @@
 use mathlib.Core.Path.{_≡_, refl, sym, ap, ap₂, _∙_, subst, subst⁻¹}
 use mathlib.Core.Bool.{Bool, true, false, not, _&&_, _||_, or-false, and-true, and-false}
 use mathlib.Core.List.{List, []}
-use Prim.Native.Nat.{ℕ, _*_, _%_, _^_, _<_, _≤_}
+use Prim.Native.Nat.{ℕ, _*_, _-_, _%_, _^_, _<_, _≤_}
 use native.Mathlib.Nat.{lt-trans}
-use lib.Bits.{bitOr, bitXor}
+use lib.Bits.{bitAnd, bitOr, bitXor}
 use lib.Count.{trailingZeros}
 use lib.Dec.{T, eqb, eqb→eq, eqb-refl}
 use lib.ListN.{getD}
 use borrow.Author.Tests.{eqb-true, lt-ltb, le-ltb}
 use Rattle.octets.specs.Bits.{bit}
-use Rattle.octets.proofs.Bits.{bit-zero, bit-or, bit-add, bit-drop, drop-lt, lowest-set, bit-below, shl-one}
+use Rattle.octets.proofs.Bits.{bit-zero, bit-or, bit-add, bit-drop, drop-lt, lowest-set, lowest-drop, bit-below, shl-one}
 use Rattle.octets.proofs.Tests.{T-of, not-T-of, is-true, left, or-left, or-right, or-cases}
 use Rattle.pattern.specs.Machine.{met, Stepped}
 use Rattle.pattern.specs.Sets.{in-set}
@@ -50,16 +50,19 @@ module _ (sets : List (List ℕ)) (before : List ℕ) (size candidates b : ℕ) 
     lowest-lt = bit-below 64 rest p (s .fits) set-at
 
     abbrev rest′ : ℕ
-    rest′ = bitXor rest (1 * 2 ^ p % 2 ^ 64)
+    rest′ = bitAnd rest (rest - 1)
 
     shifted : 1 * 2 ^ p % 2 ^ 64 ≡ 2 ^ p
     shifted = shl-one 64 p lowest-lt
 
+    without : rest′ ≡ bitXor rest (2 ^ p)
+    without = lowest-drop 64 rest p (s .fits) n e
+
     taken : (k : ℕ) → bit rest′ k ≡ (bit rest k && not (eqb k p))
-    taken k = ap (λ (m : ℕ). bit (bitXor rest m) k) shifted ∙ bit-drop rest p k set-at
+    taken k = ap (λ (m : ℕ). bit m k) without ∙ bit-drop rest p k set-at
 
     pub step-less : rest′ < rest
-    step-less = subst⁻¹ (λ (m : ℕ). bitXor rest m < rest) shifted (drop-lt rest p set-at)
+    step-less = subst⁻¹ (λ (m : ℕ). m < rest) without (drop-lt rest p set-at)
 
     step-fits : rest′ < 2 ^ 64
     step-fits = lt-trans step-less (s .fits)

@@ -50,7 +50,7 @@ fn step(sets: &[[u64; 4]; 60], before: &[u64; 60], size: usize, candidates: u64,
     let mut next: u64 = 0;
     while left != 0 {
         let p = u64::trailing_zeros(left) as usize;
-        left = left ^ 1 << p;
+        left = left & (left - 1);
         if p < size {
             if has(sets, p, b) {
                 live = live | 1 << p;

@@ -18,8 +18,8 @@ loop-holds c = search step-none
 cast-p : tie.Need-cast-p Inv-loop μ-loop
 cast-p c = omega (arith, trailing-le 64 (c .before .loop .left))
 
-shl-left : tie.Need-shl-left Inv-loop μ-loop
-shl-left c = lowest-lt _ _ _ _ _ _ _ _ (c .before .loop .inv) (c .loop-test .taken) _ refl
+sub-left : tie.Need-sub-left Inv-loop μ-loop
+sub-left c = search needs
 
 has-requires : tie.Need-has-requires Inv-loop μ-loop
 has-requires c κs = search needs
@@ -66,7 +66,7 @@ step-spec =
     μ-loop
     loop-holds
     cast-p
-    shl-left
+    sub-left
     has-requires
     shl-live
     mul-next
