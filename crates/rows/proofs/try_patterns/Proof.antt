@@ -4,11 +4,11 @@ use Rattle.rows.proofs.Requests.{body-inside}
 use Rattle.rows.proofs.try_patterns.Statement.{statement}
 use Rattle.rows.proofs.try_patterns.Tie as tie
 
-prepare-requires : tie.Need-prepare-requires
-prepare-requires c κs = search needs
+load-requires : tie.Need-load-requires
+load-requires c κs = search needs
 
-prepare-requires-2 : tie.Need-prepare-requires-2
-prepare-requires-2 c κs = search needs
+load-requires-2 : tie.Need-load-requires-2
+load-requires-2 c κs = search needs
 
 add-a : tie.Need-add-a
 add-a c = search (needs, body-place)
@@ -24,13 +24,13 @@ part-try-lines-end c = search needs
 
 -- So far back as the function's entry `search` does not look: its `pre` is given by its place.
 try-lines-requires : tie.Need-try-lines-requires
-try-lines-requires c κs = (body-short _ _ _ _ (c .before .before .before .before .before .before .before .before .before .before .before .before .before .before .before .before .before .before .before .before .pre .0), (ready-body _ _ _ _ _ (c .before .before .before .before .before .before .before .before .before .before .prepare .ensures .0) (c .before .before .before .before .before .before .if1 .taken), search needs))
+try-lines-requires c κs = (body-short _ _ _ _ (c .before .before .before .before .before .before .before .before .before .before .before .before .before .before .before .before .before .before .before .before .pre .0), (ready-body _ _ _ _ _ (c .before .before .before .before .before .before .before .before .before .before .load .ensures .ready) (c .before .before .before .before .before .before .if1 .taken), search needs))
 
 returns : tie.Need-returns
 returns c = (patterns-body _ _ _ _ (c .before .before .before .before .before .before .before .before .before .before .before .before .before .before .before .before .before .before .before .before .before .pre .0) _ _ _ _ (c .before .before .before .before .before .before .before .if1 .taken) _ (c .try-lines .ensures .0), search needs)
 
 try-fields-requires : tie.Need-try-fields-requires
-try-fields-requires c κs = (c .before .before .before .before .before .before .before .before .before .before .before .before .before .before .before .before .before .before .before .before .pre .0, (c .before .before .before .before .before .before .before .before .before .before .before .before .before .before .before .before .before .before .before .before .pre .1, (ready-head _ _ _ _ _ (c .before .before .before .before .before .before .before .before .before .before .prepare .ensures .0) (c .before .before .before .before .before .before .if1 .left), search needs)))
+try-fields-requires c κs = (c .before .before .before .before .before .before .before .before .before .before .before .before .before .before .before .before .before .before .before .before .pre .0, (c .before .before .before .before .before .before .before .before .before .before .before .before .before .before .before .before .before .before .before .before .pre .1, (ready-head _ _ _ _ _ (c .before .before .before .before .before .before .before .before .before .before .load .ensures .ready) (c .before .before .before .before .before .before .if1 .left), search needs)))
 
 same-length : tie.Need-same-length
 same-length c = search needs
@@ -45,8 +45,8 @@ pub try-patterns-spec : {M : Type 1} → statement M
 try-patterns-spec =
     tie.close
     (tie.spec
-    prepare-requires
-    prepare-requires-2
+    load-requires
+    load-requires-2
     add-a
     sub-try-lines
     part-try-lines-start
