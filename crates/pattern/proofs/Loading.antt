@@ -1,5 +1,5 @@
 -- Reading into the lent places in one go: what is read is counted and stored at once, for a string that may turn out to be no pattern.
-use mathlib.Core.Path.{_≡_, refl, sym, ap, _∙_}
+use mathlib.Core.Path.{_≡_, refl, sym, ap, _∙_, subst⁻¹}
 use mathlib.Core.Bool.{Bool, true, false, not, _&&_, _||_, true≢false}
 use mathlib.Core.Option.{Option, none, some}
 use mathlib.Core.List.{List, [], _∷_}
@@ -47,15 +47,16 @@ module _ (fold : Bool) (s : List ℕ) (old-sets : List (List ℕ)) (old-before :
       record { ready = prepared-ready fold s h old-sets ss old-before bs p; prepared = λ x. p }
 
   module _ (ls : length old-sets ≡ 60) (lb : length old-before ≡ 60) where
-    pub load-start : (i : ℕ) → (length s ≡ 0 → ⊥) → i ≡ start-of s → Loading i true no-marks old-sets old-before
-    load-start i n e =
-        record {
+    pub load-start : (i : ℕ) (m : Marks) → (length s ≡ 0 → ⊥) → i ≡ start-of s → m ≡ no-marks → Loading i true m old-sets old-before
+    load-start i m n e z =
+        subst⁻¹ (λ (k : Marks). Loading i true k old-sets old-before) z
+        (record {
           counts = count-start s i n e;
           fills = λ y. fill-start fold s old-sets old-before i y ls lb e;
           low = omega arith;
           room-sets = ls;
           room-before = lb;
-        }
+        })
 
     module _ (i : ℕ) (first : Bool) (m : Marks) (ss : List (List ℕ)) (bs : List ℕ) (l : Loading i first m ss bs) where
       pub load-end : length s ≤ i → (h : Shape) (next : ℕ) → next ≡ peek s → h ≡ shape-by m (eqb next 94) false → Loaded fold s h old-sets ss old-before bs

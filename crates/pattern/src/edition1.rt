@@ -9,7 +9,7 @@ ghost use Rattle.octets.specs.Lists.{pick};
 ghost use Rattle.pattern.specs.Answers.{is-pattern};
 ghost use Rattle.pattern.specs.Drawn.{drawn};
 ghost use Rattle.pattern.specs.Pattern.{Atom};
-ghost use Rattle.pattern.specs.Prepared.{mark as marked, before-at, set-as, shape-by, no-shape, shape-of, Loaded};
+ghost use Rattle.pattern.specs.Prepared.{no-marks, mark as marked, before-at, set-as, shape-by, no-shape, shape-of, Loaded};
 ghost use Rattle.pattern.specs.Reading.{read-pattern};
 use crate::matcher::Shape;
 use crate::reader::atom_at;
@@ -136,6 +136,17 @@ pub(crate) fn no_shape() -> Shape
     }
 }
 
+fn no_marks() -> Marks
+    ensures { λ r. ⌜ r ≡ no-marks ⌝ }
+{
+    Marks {
+        at: 0,
+        run: 0,
+        lead: 0,
+        free: true,
+    }
+}
+
 // Reads a pattern into the lent places in one go, element by element. A refused one gives a machine that takes no part; what the
 // lent places then hold is of no use.
 pub fn load(s: &[u8], fold: bool, sets: &mut [[u64; 4]; 60], before: &mut [u64; 60]) -> Shape
@@ -148,12 +159,7 @@ pub fn load(s: &[u8], fold: bool, sets: &mut [[u64; 4]; 60], before: &mut [u64; 
     let left = peek_at(s, 0) == 94;
     let mut i = start_at(s);
     let mut first = true;
-    let mut m = Marks {
-        at: 0,
-        run: 0,
-        lead: 0,
-        free: true,
-    };
+    let mut m = no_marks();
     while i < s.len() {
         if is_anchor(s, i) {
             return shape_by(m, left, true);

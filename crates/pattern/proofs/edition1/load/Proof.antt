@@ -27,6 +27,9 @@ peek-at-requires c κs = search needs
 start-at-requires : tie.Need-start-at-requires Inv-loop μ-loop
 start-at-requires c κs = search needs
 
+no-marks-requires : tie.Need-no-marks-requires Inv-loop μ-loop
+no-marks-requires c κs = search needs
+
 loop-holds : tie.Need-loop-holds Inv-loop μ-loop
 loop-holds c = search load-start
 
@@ -89,7 +92,7 @@ loop-less c =
 
 loop-again : tie.Need-loop-again Inv-loop μ-loop
 loop-again c =
-    let pre = c .before .before .before .before .before .before .before .before .before .before .before .before .before .before .before .before .before .pre in
+    let pre = c .before .before .before .before .before .before .before .before .before .before .before .before .before .before .before .before .before .before .pre in
     load-more _ _ _ _ (pre .0) (pre .1) _ _ _ _ _ (c .before .before .before .before .before .before .before .before .before .before .before .before .loop .inv) (c .before .before .before .before .before .before .before .before .before .before .before .loop-test .taken) _ (c .before .before .before .before .before .before .before .before .before .before .is-anchor .ensures) _ (c .before .before .before .before .before .before .before .before .atom-at .ensures) (c .before .before .before .before .before .before .before .before .before .if2 .left)
     (c .before .before .before .before .before .before .before .if3 .left) (c .before .before .before .before .before .before .if4 .left) _ _ _ _ _ (c .before .before .before .set-as .ensures) (ap (λ (k : ℕ). eqb k 42) (c .before .before .before .before .before .peek-at2 .ensures)) (c .behind .ensures)
     (c .before .mark .ensures) (c .before .before .before-at .ensures)
@@ -110,6 +113,7 @@ load-spec =
     returns
     peek-at-requires
     start-at-requires
+    no-marks-requires
     loop-holds
     is-anchor-requires
     shape-by-requires
