@@ -51,9 +51,9 @@ module _ (h : List ℕ) (with : Bool) (c name value : List ℕ) (m : Bool) (em :
 
 -- ---- the name of a field, as it is matched, in its room
 
--- it fits a room of 65,535 bytes
-pub matched-fits : (written room : List ℕ) → length written ≤ 65535 → 65535 ≤ length room → length (name-as-matched written) ≤ length room
-matched-fits written room h k = omega arith
+-- it fits a room for what is written
+pub matched-fits : (written room : List ℕ) → length written ≤ length room → length (name-as-matched written) ≤ length room
+matched-fits written room h = omega arith
 
 module _ (written before room : List ℕ) (n : ℕ) (en : n ≡ length (name-as-matched written)) (er : room ≡ over (name-as-matched written) before) where
   pub name-inside : n ≤ length room

@@ -3,7 +3,7 @@ use Prim.Native.Nat.{_-_}
 use native.Mathlib.Omega.{arith}
 use lib.ListN.{length}
 use borrow.Author.Needs.{needs}
-use Rattle.rows.proofs.Fielding.{Fielding, fielding-first, fielding-few, fielding-end, name-order, name-inside, value-order, value-inside, name-short, value-short, fielding-next, fielding-fit}
+use Rattle.rows.proofs.Fielding.{Fielding, fielding-first, fielding-few, fielding-end, name-order, name-inside, value-order, value-inside, name-short, value-short, name-room, value-room, fielding-next, fielding-fit}
 use Rattle.rows.proofs.Requests.{indexed-at, index-few}
 use Rattle.rows.proofs.try_fields.Statement.{statement}
 use Rattle.rows.proofs.try_fields.Tie as tie
@@ -39,7 +39,7 @@ part-try-field-end-2 : tie.Need-part-try-field-end-2 Inv-loop μ-loop
 part-try-field-end-2 c = search (needs, value-inside)
 
 try-field-requires : tie.Need-try-field-requires Inv-loop μ-loop
-try-field-requires c κs = ((search name-short, search value-short), ((search needs, search needs), (search needs, search needs)))
+try-field-requires c κs = ((search name-short, search value-short), ((name-room _ _ _ _ (c .before .before .before .before .before .before .before .before .before .before .before .before .before .before .pre .0) _ (c .before .before .before .before .before .loop-test .taken) _ (c .before .before .before .before .field-at .ensures) _ (omega (arith, c .before .before .before .before .before .before .before .before .before .before .before .before .before .before .pre .1 .0 .0, c .before .before .before .before .before .before .loop .inv)), value-room _ _ _ _ (c .before .before .before .before .before .before .before .before .before .before .before .before .before .before .pre .0) _ (c .before .before .before .before .before .loop-test .taken) _ (c .before .before .before .before .field-at .ensures) _ (omega (arith, c .before .before .before .before .before .before .before .before .before .before .before .before .before .before .pre .1 .0 .1, c .before .before .before .before .before .before .loop .inv))), (search needs, search needs)))
 
 -- The three needs after the call name the facts by their places: so far back `search` does not look.
 add-trials : tie.Need-add-trials Inv-loop μ-loop
