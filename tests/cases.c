@@ -61,13 +61,6 @@ static uint32_t call(const struct one *c, const struct lent *at, uint32_t *n) {
     }
 }
 
-/* A part of a case at the end of a room, or at its start. */
-static uint8_t *lend(uint8_t *room, const struct bytes *part, int end) {
-    uint8_t *at = end ? room + ROOM - part->length : room;
-    memcpy(at, part->at, part->length);
-    return at;
-}
-
 static int changed(const uint8_t *at, const struct bytes *part) { return memcmp(at, part->at, part->length) != 0; }
 
 /* Runs a case at one end of the rooms; the answer's numbers are left in n, its list in `list`. */

@@ -43,4 +43,11 @@ static uint8_t *room(void) {
     if (mprotect(all, PAGE, PROT_NONE) || mprotect(all + PAGE + ROOM, PAGE, PROT_NONE)) stop("no guard pages");
     return all + PAGE;
 }
+
+/* A part at the end of a room, or at its start. */
+static uint8_t *lend(uint8_t *room, const struct bytes *part, int end) {
+    uint8_t *at = end ? room + ROOM - part->length : room;
+    memcpy(at, part->at, part->length);
+    return at;
+}
 #endif

@@ -23,11 +23,8 @@ int main(int argc, char **argv) {
     for (uint32_t i = 0; i < many; i++) {
         uint32_t at_end[4], at_start[4];
         bytes(in, &request);
-        uint8_t *end = lent + ROOM - request.length;
-        memcpy(end, request.at, request.length);
-        count(end, request.length, 0xDEADBE00, at_end);
-        memcpy(lent, request.at, request.length);
-        count(lent, request.length, 0xDEADBE01, at_start);
+        count(lend(lent, &request, 1), request.length, 0xDEADBE00, at_end);
+        count(lend(lent, &request, 0), request.length, 0xDEADBE01, at_start);
         if (memcmp(at_end, at_start, sizeof at_end)) stop("one request has two answers");
         for (int k = 0; k < 4; k++) put(out, at_end[k]);
     }
