@@ -1,17 +1,11 @@
-/* desk DIRECTORY: the sample desk. Takes the requests in DIRECTORY through the desk's profile and prints each step.
- *
- * The desk has three servers. The recorder takes every call with sound and every message of a desk, and learns of its first
- * registration; without the recorder a call must not go on. Billing takes calls to other houses. Voicemail takes calls to a desk
- * and learns when one comes and goes. */
+/* desk DIRECTORY: the sample desk. Takes the requests in DIRECTORY through the desk's profile (desk.h) and prints each step. */
 #include <stddef.h>
 #include <stdint.h>
 #include <stdio.h>
 #include <stdlib.h>
 #include <string.h>
 #include "../include/ifc.h"
-#include "image.h"
-
-enum { BILLING, RECORDER, VOICEMAIL }; /* numbers of the criteria, in the order of the image */
+#include "desk.h"
 
 static uint8_t image[IMAGE_MOST];
 static size_t image_len;
@@ -23,40 +17,9 @@ static void stop(const char *why) {
 
 /* ---- the profile */
 
-static void method(struct image_builder *b, const char *name, int set, int group) {
-    image_row(b, (struct image_row){.kind = ROW_METHOD, .first = name, .set = set, .group = group});
-}
-
 static void desk_profile(int recorder_handling) {
-    static struct image_builder b;
-    image_begin(&b);
-
-    /* billing, every group must hold: an INVITE, and no To of this house */
-    method(&b, "INVITE", 0, 0);
-    image_row(&b, (struct image_row){.negated = 1, .kind = ROW_HEADER, .first = "^To$", .content = "@desk\\.example", .group = 1});
-    image_criterion(&b, (struct image_criterion){.priority = 20, .part = PART_REGISTERED, .form = FORM_CNF,
-        .server = "sip:billing@desk.example", .handling = HANDLING_CONTINUED});
-
-    /* the recorder, one group must hold: an INVITE with sound, a MESSAGE, a first REGISTER; each only From a desk */
-    method(&b, "INVITE", 0, 0);
-    image_row(&b, (struct image_row){.kind = ROW_LINE, .first = "m", .content = "^audio ", .group = 0});
-    method(&b, "MESSAGE", 0, 1);
-    method(&b, "REGISTER", INITIAL, 2);
-    image_row(&b, (struct image_row){.kind = ROW_HEADER, .first = "^From$", .content = "<sip:desk[0-9]*@desk\\.example>"});
-    image_also(&b, 1);
-    image_also(&b, 2);
-    image_criterion(&b, (struct image_criterion){.priority = 10, .part = PART_REGISTERED, .form = FORM_DNF,
-        .server = "sip:recorder@desk.example", .handling = recorder_handling, .information = "retain=7y"});
-
-    /* voicemail, one group must hold: a first or last REGISTER, an INVITE to the desk (case 1) */
-    method(&b, "REGISTER", INITIAL | DEREGISTRATION, 0);
-    image_row(&b, (struct image_row){.kind = ROW_CASE, .session_case = IFC_TERMINATING_REGISTERED, .group = 1});
-    method(&b, "INVITE", 0, 1);
-    image_criterion(&b, (struct image_criterion){.priority = 30, .part = PART_ABSENT, .form = FORM_DNF,
-        .server = "sip:voicemail@desk.example", .handling = HANDLING_ABSENT});
-
     uint32_t place;
-    image_len = image_end(&b, image, sizeof image);
+    image_len = desk_image(recorder_handling, image, sizeof image);
     if (ifc_check(image, image_len, &place) != IFC_ACCEPTED) stop("the desk's profile has a fault");
 }
 

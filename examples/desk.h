@@ -1,0 +1,47 @@
+/* The sample desk's profile. It has three servers. The recorder takes every call with sound and every message of a desk, and learns
+ * of its first registration; without the recorder a call must not go on. Billing takes calls to other houses. Voicemail takes calls
+ * to a desk and learns when one comes and goes. */
+#ifndef DESK_H
+#define DESK_H
+#include "../include/ifc.h"
+#include "image.h"
+
+enum { BILLING, RECORDER, VOICEMAIL }; /* numbers of the criteria, in the order of the image */
+
+static inline void desk_method(struct image_builder *b, const char *name, int set, int group) {
+    image_row(b, (struct image_row){.kind = ROW_METHOD, .first = name, .set = set, .group = group});
+}
+
+/* Its image, with the recorder's default handling; its length. */
+static inline size_t desk_image(int recorder_handling, uint8_t *to, size_t room) {
+    static struct image_builder b;
+    image_begin(&b);
+
+    /* billing, every group must hold: an INVITE, and no To of this house */
+    desk_method(&b, "INVITE", 0, 0);
+    image_row(&b, (struct image_row){.negated = 1, .kind = ROW_HEADER, .first = "^To$", .content = "@desk\\.example", .group = 1});
+    image_criterion(&b, (struct image_criterion){.priority = 20, .part = PART_REGISTERED, .form = FORM_CNF,
+        .server = "sip:billing@desk.example", .handling = HANDLING_CONTINUED});
+
+    /* the recorder, one group must hold: an INVITE with sound, a MESSAGE, a first REGISTER; each only From a desk */
+    desk_method(&b, "INVITE", 0, 0);
+    image_row(&b, (struct image_row){.kind = ROW_LINE, .first = "m", .content = "^audio ", .group = 0});
+    desk_method(&b, "MESSAGE", 0, 1);
+    desk_method(&b, "REGISTER", INITIAL, 2);
+    image_row(&b, (struct image_row){.kind = ROW_HEADER, .first = "^From$", .content = "<sip:desk[0-9]*@desk\\.example>"});
+    image_also(&b, 1);
+    image_also(&b, 2);
+    image_criterion(&b, (struct image_criterion){.priority = 10, .part = PART_REGISTERED, .form = FORM_DNF,
+        .server = "sip:recorder@desk.example", .handling = recorder_handling, .information = "retain=7y"});
+
+    /* voicemail, one group must hold: a first or last REGISTER, an INVITE to the desk (case 1) */
+    desk_method(&b, "REGISTER", INITIAL | DEREGISTRATION, 0);
+    image_row(&b, (struct image_row){.kind = ROW_CASE, .session_case = IFC_TERMINATING_REGISTERED, .group = 1});
+    desk_method(&b, "INVITE", 0, 1);
+    image_criterion(&b, (struct image_criterion){.priority = 30, .part = PART_ABSENT, .form = FORM_DNF,
+        .server = "sip:voicemail@desk.example", .handling = HANDLING_ABSENT});
+
+    return image_end(&b, to, room);
+}
+
+#endif
