@@ -10,18 +10,18 @@
 
 enum { PAGE = 4096, ROOM = 131072 };
 
-static void stop(const char *why) {
+static inline void stop(const char *why) {
     fprintf(stderr, "stopped: %s\n", why);
     exit(2);
 }
 
-static uint32_t number(FILE *in) {
+static inline uint32_t number(FILE *in) {
     uint8_t b[4];
     if (fread(b, 1, 4, in) != 4) stop("the file is cut short");
     return (uint32_t)b[0] << 24 | (uint32_t)b[1] << 16 | (uint32_t)b[2] << 8 | b[3];
 }
 
-static void put(FILE *out, uint32_t n) {
+static inline void put(FILE *out, uint32_t n) {
     uint8_t b[4] = {(uint8_t)(n >> 24), (uint8_t)(n >> 16), (uint8_t)(n >> 8), (uint8_t)n};
     if (fwrite(b, 1, 4, out) != 4) stop("cannot write");
 }
@@ -31,13 +31,13 @@ struct bytes {
     uint8_t at[ROOM];
 };
 
-static void bytes(FILE *in, struct bytes *to) {
+static inline void bytes(FILE *in, struct bytes *to) {
     to->length = number(in);
     if (to->length > ROOM) stop("a part of the file is too long");
     if (fread(to->at, 1, to->length, in) != to->length) stop("the file is cut short");
 }
 
-static uint8_t *room(void) {
+static inline uint8_t *room(void) {
     uint8_t *all = mmap(NULL, ROOM + 2 * PAGE, PROT_READ | PROT_WRITE, MAP_PRIVATE | MAP_ANONYMOUS, -1, 0);
     if (all == MAP_FAILED) stop("no memory");
     if (mprotect(all, PAGE, PROT_NONE) || mprotect(all + PAGE + ROOM, PAGE, PROT_NONE)) stop("no guard pages");
@@ -45,7 +45,7 @@ static uint8_t *room(void) {
 }
 
 /* A part at the end of a room, or at its start. */
-static uint8_t *lend(uint8_t *room, const struct bytes *part, int end) {
+static inline uint8_t *lend(uint8_t *room, const struct bytes *part, int end) {
     uint8_t *at = end ? room + ROOM - part->length : room;
     memcpy(at, part->at, part->length);
     return at;
