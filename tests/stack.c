@@ -68,6 +68,14 @@ static void many_values(void) {
     put("\r\n\r\n");
 }
 
+/* The longest that gets the small rooms. */
+static void short_request(void) {
+    begin();
+    put("ab:");
+    pad('b', 4096 - 4);
+    put("\r\n\r\n");
+}
+
 static void long_body(void) {
     begin();
     put("\r\na=");
@@ -160,8 +168,8 @@ int main(void) {
     static const struct {
         const char *name;
         void (*make)(void);
-    } worst[] = {{"16,380 fields", many_fields}, {"a name of 65,000 bytes", long_name}, {"a value of 65,000 bytes", long_value},
-        {"65,000 values", many_values}, {"a line of 65,000 bytes", long_body}};
+    } worst[] = {{"4,096 bytes", short_request}, {"16,380 fields", many_fields}, {"a name of 65,000 bytes", long_name},
+        {"a value of 65,000 bytes", long_value}, {"65,000 values", many_values}, {"a line of 65,000 bytes", long_body}};
     uint8_t *all = mmap(NULL, PAGE + DOCUMENTED + LIBRARY, PROT_READ | PROT_WRITE, MAP_PRIVATE | MAP_ANONYMOUS, -1, 0);
     if (all == MAP_FAILED || mprotect(all, PAGE, PROT_NONE)) stop("no memory");
     stack = all + PAGE;
@@ -174,7 +182,7 @@ int main(void) {
     tell("ifc_report", report, 10);
     tell("ifc_server", server, 0);
     tell("ifc_information", information, 0);
-    for (int i = 0; i < 5; i++) {
+    for (size_t i = 0; i < sizeof worst / sizeof worst[0]; i++) {
         char name[64];
         method = "INVITE", worst[i].make();
         ifc_session_open(&session, 1);
