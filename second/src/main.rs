@@ -1,4 +1,4 @@
-//! The commands: make, answer, compare, show, parts, lines, mutants.
+//! The commands: make, few, answer, compare, show, parts, lines, mutants.
 
 use second::case::{self, Answer, Case};
 use second::{files, lines, maker, parts, show};
@@ -7,6 +7,7 @@ use std::io::{self, BufWriter, Read, Write};
 use std::process::ExitCode;
 
 const USAGE: &str = "second make SEED COUNT > cases
+second few SEED COUNT EVERY MOST > cases
 second answer [CASES [ANSWERS]]
 second compare CASES ANSWERS
 second show N CASES
@@ -21,6 +22,7 @@ fn main() -> ExitCode {
     let words: Vec<&str> = words.iter().map(String::as_str).collect();
     let done = match words[..] {
         ["make", seed, count] => make(seed, count),
+        ["few", seed, count, every, most] => few(seed, count, every, most),
         ["answer"] => answer("-", "-"),
         ["answer", cases] => answer(cases, "-"),
         ["answer", cases, answers] => answer(cases, answers),
@@ -72,8 +74,16 @@ fn sink(name: &str) -> Result<Box<dyn Write>, String> {
 }
 
 fn make(seed: &str, count: &str) -> Done {
-    let cases = maker::cases(number(seed)?, number(count)? as usize);
-    words(files::write_cases(&mut BufWriter::new(io::stdout().lock()), &cases))?;
+    write_made(&maker::cases(number(seed)?, number(count)? as usize))
+}
+
+fn few(seed: &str, count: &str, every: &str, most: &str) -> Done {
+    let every = (number(every)? as usize).max(1);
+    write_made(&maker::few::few(number(seed)?, number(count)? as usize, every, number(most)? as usize))
+}
+
+fn write_made(cases: &[Case]) -> Done {
+    words(files::write_cases(&mut BufWriter::new(io::stdout().lock()), cases))?;
     Ok(true)
 }
 

@@ -1,6 +1,7 @@
 //! What the made cases must hold: every limit, every number, every point, enough forwards.
 
-use second::case::{answer, Call};
+use second::case::{answer, Call, Case};
+use second::files;
 use second::maker::{self, random::Random};
 use second::twist::ALL;
 use std::collections::BTreeSet;
@@ -60,6 +61,29 @@ fn every_number_of_every_call() {
         .flat_map(|(call, numbers)| numbers.iter().map(|&number| (*call as u32, number)))
         .collect();
     assert_eq!(given, expected);
+}
+
+/// The kept cases: no refusal of any call is missing, nor a way to go on, and what crates/vectors has room for is enough.
+#[test]
+fn few_of_every_kind() {
+    let told = |cases: &[Case]| -> BTreeSet<(u32, u32)> {
+        cases.iter().map(|case| (case.call as u32, answer(case).number)).collect()
+    };
+    let few = maker::few::few(1, 4_000, 8, 2_000);
+    assert_eq!(told(&few), told(&maker::fixed()));
+    let advances = few.iter().filter(|case| case.call == Call::Advance);
+    let outcomes: Vec<u32> = advances.map(|case| answer(case).numbers[6]).collect();
+    for outcome in [1, 2] {
+        assert!(outcomes.iter().filter(|&&given| given == outcome).count() > 100, "outcome {outcome}");
+    }
+    let lists = few.iter().filter(|case| case.call == Call::List);
+    assert!(lists.filter(|case| answer(case).numbers[3] > 1).count() > 20);
+    assert!(few.iter().all(|case| case.list.len() <= 512));
+    let (mut cases, mut answers) = (Vec::new(), Vec::new());
+    files::write_cases(&mut cases, &few).expect("written to memory");
+    files::write_answers(&mut answers, &few.iter().map(answer).collect::<Vec<_>>())
+        .expect("written to memory");
+    assert!(cases.len() < 1_000_000 && answers.len() < 200_000);
 }
 
 /// The readings marked H.

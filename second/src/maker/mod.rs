@@ -4,6 +4,7 @@ pub mod boundaries;
 pub mod build;
 pub mod draft;
 pub mod faults;
+pub mod few;
 pub mod lean;
 pub mod masses;
 pub mod orders;
