@@ -1,5 +1,6 @@
 #!/bin/sh
-# The check of the second program: its tests, then its mutants on a short run of cases.
+# The check of the second program: its tests, its mutants on a short run of cases, and that the kept cases and answers are those
+# that it makes today.
 # Build output goes to CARGO_TARGET_DIR, or to target/ beside this script.
 set -eu
 
@@ -15,8 +16,9 @@ export CARGO_TARGET_DIR RUSTFLAGS
 
 cargo test --release --offline --quiet
 
-report=$(mktemp)
-trap 'rm -f "$report"' EXIT
+made=$(mktemp -d)
+report=$made/report
+trap 'rm -rf "$made"' EXIT
 if ! cargo run --release --offline --quiet --features twists -- mutants 1 4000 > "$report"; then
     grep -v '^told' "$report"
     exit 1
@@ -25,4 +27,10 @@ grep -v '^told' "$report"
 
 # Leaves the plain program behind, not the one with mutants in it.
 cargo build --release --offline --quiet
+./kept.sh "$CARGO_TARGET_DIR/release/second" "$made"
+kept=../crates/vectors/data
+if ! cmp "$made/cases" "$kept/cases" || ! cmp "$made/answers" "$kept/answers"; then
+    echo "the kept cases are not those made today: kept.sh writes them to $kept"
+    exit 1
+fi
 echo 'second: ok'
