@@ -107,10 +107,9 @@ static int prepare(const uint8_t *pattern, size_t length, uint32_t fold, struct 
     return 1;
 }
 
-/* From the end, to the first place where a part begins, or where nothing can be live any more. */
+/* From the end, to the first place where a part begins. */
 static int matches(const struct machine *m, const uint8_t *text, size_t n) {
     if (n ? m->tail : m->whole) return 1;
-    int mortal = !m->stops && !m->head && !m->middle;
     uint64_t next = 0;
     for (size_t i = n; i-- > 0;) {
         uint64_t left = next | (i + 1 == n ? m->ends : m->stops), live = 0;
@@ -124,7 +123,6 @@ static int matches(const struct machine *m, const uint8_t *text, size_t n) {
             }
         }
         if ((i ? m->middle : m->head) || (i ? m->inner : m->start) & live) return 1;
-        if (mortal && !next) return 0;
     }
     return 0;
 }

@@ -1,18 +1,18 @@
 -- A scan from the end keeps, as bits, the positions that are live before what has been read.
-use mathlib.Core.Path.{_≡_, refl, sym, ap, ap₂, _∙_, subst, subst⁻¹}
+use mathlib.Core.Path.{_≡_, refl, sym, ap, _∙_, subst, subst⁻¹}
 use mathlib.Core.Bool.{Bool, true, false, not, _&&_, _||_, true≢false}
 use mathlib.Core.List.{List, [], _∷_}
-use Prim.Native.Nat.{ℕ, zero, suc, _+_, _<_, _≤_, zero-le}
+use Prim.Native.Nat.{ℕ, _+_, _<_, _≤_}
 use native.Mathlib.Omega.{arith}
-use lib.Bits.{bitAnd, bitOr, and-zero-r}
-use lib.Dec.{T, eqb, ltb, eqb→eq}
+use lib.Bits.{bitAnd, bitOr}
+use lib.Dec.{T, eqb, ltb}
 use lib.ListN.{length, getD, drop}
 use lib.Seq.{drop-length}
-use borrow.Author.Tests.{ltb-true, ltb-false, ne-eqb}
+use borrow.Author.Tests.{ltb-true, ltb-false}
 use Rattle.octets.specs.Bits.{bit}
 use Rattle.octets.specs.Lists.{pick, empty}
 use Rattle.octets.proofs.Bits.{bit-zero, bit-or, common, share}
-use Rattle.octets.proofs.Tests.{T-of, is-false, not-T-of, both, left, right, or-left, or-right, or-cases}
+use Rattle.octets.proofs.Tests.{T-of, not-T-of, both, left, right, or-left, or-right, or-cases}
 use Rattle.pattern.specs.Machine.{Machine, Live, live-end, live-on, Starts, starts-none, starts-live, StartsAt, Leftmost, Found, first-mask, last-mask, null-at, met, machine-of, Stepped}
 use Rattle.pattern.specs.Sets.{in-set}
 use Rattle.pattern.specs.declared.matcher.Shape.{Shape}
@@ -251,42 +251,3 @@ module _ (h : Shape) (sets : List (List ℕ)) (before : List ℕ) (text : List �
 
   pub found-none : (i next : ℕ) → i ≤ 0 → Scan h sets before text i next (length text + 1) → Found M text false
   found-none i next z s = record { yes = λ e. absurd (true≢false (sym e)); no = λ e. scan-all i next (length text + 1) z s }
-
-  -- ---- nothing is live, and nothing further down will be
-
-  module _ (no-stop : h .stops ≡ 0) (no-head : h .head ≡ false) (no-middle : h .middle ≡ false) where
-    none-kept : (b : ℕ) → Stepped sets before (h .size) (bitOr 0 0) b 0 0 0
-    none-kept b = record {
-      kept = λ p. bit-zero p ∙ sym (ap (λ (t : Bool). t && not (bit 0 p) && met (h .size) sets b p) (bit-or 0 0 p ∙ ap₂ _||_ (bit-zero p) (bit-zero p)));
-      back = λ p t. absurd (not-T-of (bit-zero p) t);
-      forth = λ p q t u. absurd (not-T-of (bit-zero q) t);
-    }
-
-    none-begins : (j : ℕ) → tested j false 0 ≡ false
-    none-begins j = ap₂ _||_ (empty-not (eqb j 0)) (ap (λ (n : ℕ). not (eqb n 0)) (and-zero-r (first-mask h (eqb j 0))))
-      where
-        empty-not : (a : Bool) → null-at h a false ≡ false
-        empty-not true = no-head
-        empty-not false = no-middle
-
-    pub found-dead : (j : ℕ) → Scan h sets before text j 0 (length text + 1) → j < length text → Found M text false
-    found-dead zero s l = found-none 0 0 zero-le s
-    found-dead (suc j) s l =
-        let d : suc j ≡ j + 1 = omega arith in
-        let e : 0 ≡ last-mask h (eqb (suc j) (length text)) = sym (ap (last-mask h) (ne-eqb (suc j) (length text) (λ q. absurd (omega arith))) ∙ no-stop) in
-        found-dead j (found-miss (suc j) j 0 0 0 0 d s e (none-kept (getD text j 0)) (tested j false 0) refl (none-begins j)) (omega arith)
-
-  -- as the code tests it
-  pub found-over : (t : Bool) → t ≡ ((eqb (h .stops) 0 && not (h .head)) && not (h .middle)) → (j next : ℕ) → Scan h sets before text j next (length text + 1) → j < length text
-      → (t && eqb next 0) ≡ true → Found M text false
-  found-over t et j next s l q =
-      let both-true : T (t && eqb next 0) = T-of q in
-      let dying : T ((eqb (h .stops) 0 && not (h .head)) && not (h .middle)) = subst T et (left t (eqb next 0) both-true) in
-      let first-two : T (eqb (h .stops) 0 && not (h .head)) = left (eqb (h .stops) 0 && not (h .head)) (not (h .middle)) dying in
-      found-dead
-      (eqb→eq (h .stops) 0 (left (eqb (h .stops) 0) (not (h .head)) first-two))
-      (is-false (h .head) (right (eqb (h .stops) 0) (not (h .head)) first-two))
-      (is-false (h .middle) (right (eqb (h .stops) 0 && not (h .head)) (not (h .middle)) dying))
-      j
-      (subst (λ (n : ℕ). Scan h sets before text j n (length text + 1)) (eqb→eq next 0 (right t (eqb next 0) both-true)) s)
-      l

@@ -1,6 +1,6 @@
 // The matcher: a machine of at most 60 positions, a bit for each. It knows no edition of patterns.
 ghost use mathlib.Core.Path.{_≡_};
-ghost use mathlib.Core.Bool.{true, not, _&&_, _||_};
+ghost use mathlib.Core.Bool.{true, not, _||_};
 ghost use mathlib.Core.List.{[]};
 ghost use Prim.Native.Nat.{_+_, _≤_, _<_};
 ghost use lib.Bits.{bitAnd};
@@ -139,14 +139,7 @@ pub(crate) fn leftmost(h: Shape, sets: &[[u64; 4]; 60], before: &[u64; 60], text
     best
 }
 
-// No empty part fits before the text's end, and no part ends there: where nothing is live, nothing further down will be.
-fn dies(h: Shape) -> bool
-    ensures { λ r. ⌜ r ≡ ((eqb (h .stops) 0 && not (h .head)) && not (h .middle)) ⌝ }
-{
-    (h.stops == 0) & !h.head & !h.middle
-}
-
-// Whether some part of the text fits: the same scan, which ends at the first place that it finds, or where nothing can be live any more.
+// Whether some part of the text fits: the same scan, which ends at the first place that it finds.
 pub(crate) fn found(h: Shape, sets: &[[u64; 4]; 60], before: &[u64; 60], text: &[u8]) -> bool
     requires { ⌜ h .size ≤ 60 ⌝ }
     ensures { λ r. ⌜ Found (machine-of h (now (sets .entry)) (now (before .entry))) (now (text .entry)) r ⌝ }
@@ -156,7 +149,6 @@ pub(crate) fn found(h: Shape, sets: &[[u64; 4]; 60], before: &[u64; 60], text: &
     if begins(h, end == 0, true, 0) {
         return true;
     }
-    let mortal = dies(h);
     let mut next: u64 = 0;
     let mut i = end;
     while 0 < i {
@@ -166,9 +158,6 @@ pub(crate) fn found(h: Shape, sets: &[[u64; 4]; 60], before: &[u64; 60], text: &
         next = f.next;
         if begins(h, i == 0, false, f.live) {
             return true;
-        }
-        if mortal & (next == 0) {
-            return false;
         }
     }
     false

@@ -1,26 +1,23 @@
-use Rattle.pattern.proofs.Scan.{Scan, found-end, found-first-miss, found-hit, found-miss, found-none, found-over}
+use borrow.Author.Needs.{needs}
+use Rattle.pattern.proofs.Scan.{Scan, found-end, found-first-miss, found-hit, found-miss, found-none}
 use Prim.Native.Nat.{_+_, _-_}
 use lib.ListN.{length}
 use mathlib.Core.Path.{_≡_}
 use native.Mathlib.Omega.{arith}
-use borrow.Author.Needs.{needs}
 use Rattle.pattern.proofs.matcher.found.Statement.{statement}
 use Rattle.pattern.proofs.matcher.found.Tie as tie
 
 abbrev Inv-loop : tie.InvT-loop
-Inv-loop h sets before text end size mortal next₀ i₀ next i = Scan h sets before text i next (length text + 1)
+Inv-loop h sets before text end size next₀ i₀ next i = Scan h sets before text i next (length text + 1)
 
 abbrev μ-loop : tie.MeasureT-loop
-μ-loop h sets before text end size mortal next₀ i₀ next i = i
+μ-loop h sets before text end size next₀ i₀ next i = i
 
 begins-requires : tie.Need-begins-requires Inv-loop μ-loop
 begins-requires c κs = search needs
 
 returns : tie.Need-returns Inv-loop μ-loop
 returns c = search found-end
-
-dies-requires : tie.Need-dies-requires Inv-loop μ-loop
-dies-requires c κs = search needs
 
 loop-holds : tie.Need-loop-holds Inv-loop μ-loop
 loop-holds c = search found-first-miss
@@ -41,19 +38,22 @@ begins-requires-2 : tie.Need-begins-requires-2 Inv-loop μ-loop
 begins-requires-2 c κs = search needs
 
 returns-2 : tie.Need-returns-2 Inv-loop μ-loop
-returns-2 c = let l = c .before .before .before .before .before .before .loop in let d : l .i ≡ l .i - 1 + 1 = omega arith in found-hit _ _ _ _ _ _ _ _ _ _ d (l .inv) (c .before .before .before .before .last-of .ensures) (c .before .before .step .ensures) _ (c .before .begins2 .ensures) (c .if2 .taken)
-
-returns-3 : tie.Need-returns-3 Inv-loop μ-loop
-returns-3 c = let l = c .before .before .before .before .before .before .before .loop in let d : l .i ≡ l .i - 1 + 1 = omega arith in found-over _ _ _ _ _ (c .before .before .before .before .before .before .before .before .dies .ensures) _ _ (found-miss _ _ _ _ _ _ _ _ _ _ d (l .inv) (c .before .before .before .before .before .last-of .ensures) (c .before .before .before .step .ensures) _ (c .before .before .begins2 .ensures) (c .before .if2 .left)) (omega (arith, l .inv .inside)) (c .if3 .taken)
+returns-2 c =
+    let l = c .before .before .before .before .before .before .loop in
+    let d : l .i ≡ l .i - 1 + 1 = omega arith in
+    found-hit _ _ _ _ _ _ _ _ _ _ d (l .inv) (c .before .before .before .before .last-of .ensures) (c .before .before .step .ensures) _ (c .before .begins2 .ensures) (c .if2 .taken)
 
 loop-less : tie.Need-loop-less Inv-loop μ-loop
 loop-less c = search needs
 
 loop-again : tie.Need-loop-again Inv-loop μ-loop
-loop-again c = let l = c .before .before .before .before .before .before .before .loop in let d : l .i ≡ l .i - 1 + 1 = omega arith in found-miss _ _ _ _ _ _ _ _ _ _ d (l .inv) (c .before .before .before .before .before .last-of .ensures) (c .before .before .before .step .ensures) _ (c .before .before .begins2 .ensures) (c .before .if2 .left)
+loop-again c =
+    let l = c .before .before .before .before .before .before .loop in
+    let d : l .i ≡ l .i - 1 + 1 = omega arith in
+    found-miss _ _ _ _ _ _ _ _ _ _ d (l .inv) (c .before .before .before .before .last-of .ensures) (c .before .before .step .ensures) _ (c .before .begins2 .ensures) (c .if2 .left)
 
-returns-4 : tie.Need-returns-4 Inv-loop μ-loop
-returns-4 c = search found-none
+returns-3 : tie.Need-returns-3 Inv-loop μ-loop
+returns-3 c = search found-none
 
 pub found-spec : {M : Type 1} → statement M
 found-spec =
@@ -63,7 +63,6 @@ found-spec =
     μ-loop
     begins-requires
     returns
-    dies-requires
     loop-holds
     last-of-requires
     sub-i
@@ -71,7 +70,6 @@ found-spec =
     step-requires
     begins-requires-2
     returns-2
-    returns-3
     loop-less
     loop-again
-    returns-4)
+    returns-3)
