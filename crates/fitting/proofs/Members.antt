@@ -1,5 +1,5 @@
 -- The loops over memberships, and what they say of a trigger.
-use mathlib.Core.Bool.{Bool, true, false, not, _&&_, _||_}
+use mathlib.Core.Bool.{Bool, true, false, not, _&&_, _||_, and-false}
 use mathlib.Core.Path.{_≡_, refl, sym, ap, ap₂, _∙_, subst}
 use Prim.Native.Nat.{ℕ, suc, _+_, _-_, _*_, _/_, _^_, _≤_, _<_}
 use native.Mathlib.Omega.{arith}
@@ -166,10 +166,6 @@ module _ (form mask first count : ℕ) (ms : List Member) where
   form-none k j = sym (rw (ne-eqb form 0 k, ne-eqb form 1 j))
 
 -- ---- one membership
-
-and-false : (b : Bool) → (b && false) ≡ false
-and-false true = refl
-and-false false = refl
 
 module _ (first count : ℕ) (m : Member) (row : ℕ) (er : row ≡ m .row) where
   pub rows-below : row < first → of-rows first count m ≡ false

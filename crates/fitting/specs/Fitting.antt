@@ -12,9 +12,13 @@ use Rattle.rows.specs.Rows.{Given, row-fits, row-trials}
 
 -- ---- a trigger
 
+-- r is one of so many rows from the first on
+abbrev pub in-rows : ℕ → ℕ → ℕ → Bool
+in-rows first count r = leb first r && ltb r (first + count)
+
 -- r is one of the criterion's rows
 abbrev pub has-row : Criterion → ℕ → Bool
-has-row c r = leb (c .first) r && ltb r (c .first + c .count)
+has-row c = in-rows (c .first) (c .count)
 
 -- the memberships of the trigger's rows: "Groups belong to one trigger only"
 unfoldable pub memberships : Profile → Criterion → List Member

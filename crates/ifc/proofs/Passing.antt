@@ -8,6 +8,7 @@ use Rattle.profile.specs.declared.Lookup.{Lookup}
 use Rattle.session.specs.Session.{Opens, Reports}
 use Rattle.session.specs.declared.Opened.{Opened}
 use Rattle.session.specs.declared.Reported.{Reported}
+use Rattle.session.specs.declared.Session.{Session}
 use Rattle.rows.specs.Tried.{given}
 use Rattle.route.specs.Advance.{Advances}
 use Rattle.route.specs.Listing.{Lists}
@@ -55,9 +56,9 @@ passes-information h e =
       length-is = ap (λ (x : Lookup). x .length) (h .answer);
     }
 
-pub passes-advance : {case before forwarded last handling : ℕ} {image request : List ℕ} {a : Advanced}
-    → Advances (session-of case before forwarded last handling) image request a
-    → AdvanceTo case before forwarded last handling image request (a .refusal) (a .session .state) (a .session .forwarded) (a .session .last)
+pub passes-advance : {x : Session} {image request : List ℕ} {a : Advanced}
+    → Advances x image request a
+    → AdvanceTo x image request (a .refusal) (a .session .state) (a .session .forwarded) (a .session .last)
     (a .session .handling) (a .place) (a .outcome) (a .number) (a .priority) (a .examined) (a .trials)
 passes-advance h =
     record {

@@ -54,20 +54,20 @@ pub record InformationTo (image : List ℕ) (criterion number place present star
   pub start-is : start ≡ information image criterion .start
   pub length-is : length ≡ information image criterion .length
 
--- advance: the session's four numbers that may change, and the answer's
-pub record AdvanceTo (case before forwarded₀ last₀ handling₀ : ℕ) (image request : List ℕ)
+-- advance of a session: its four numbers that may change, and the answer's
+pub record AdvanceTo (x : Session) (image request : List ℕ)
     (number state forwarded last handling place outcome criterion priority examined trials : ℕ) : Type 0 where
-  pub number-is : number ≡ advance (session-of case before forwarded₀ last₀ handling₀) image request .refusal
-  pub state-is : state ≡ advance (session-of case before forwarded₀ last₀ handling₀) image request .session .state
-  pub forwarded-is : forwarded ≡ advance (session-of case before forwarded₀ last₀ handling₀) image request .session .forwarded
-  pub last-is : last ≡ advance (session-of case before forwarded₀ last₀ handling₀) image request .session .last
-  pub handling-is : handling ≡ advance (session-of case before forwarded₀ last₀ handling₀) image request .session .handling
-  pub place-is : place ≡ advance (session-of case before forwarded₀ last₀ handling₀) image request .place
-  pub outcome-is : outcome ≡ advance (session-of case before forwarded₀ last₀ handling₀) image request .outcome
-  pub criterion-is : criterion ≡ advance (session-of case before forwarded₀ last₀ handling₀) image request .number
-  pub priority-is : priority ≡ advance (session-of case before forwarded₀ last₀ handling₀) image request .priority
-  pub examined-is : examined ≡ advance (session-of case before forwarded₀ last₀ handling₀) image request .examined
-  pub trials-is : trials ≡ advance (session-of case before forwarded₀ last₀ handling₀) image request .trials
+  pub number-is : number ≡ advance x image request .refusal
+  pub state-is : state ≡ advance x image request .session .state
+  pub forwarded-is : forwarded ≡ advance x image request .session .forwarded
+  pub last-is : last ≡ advance x image request .session .last
+  pub handling-is : handling ≡ advance x image request .session .handling
+  pub place-is : place ≡ advance x image request .place
+  pub outcome-is : outcome ≡ advance x image request .outcome
+  pub criterion-is : criterion ≡ advance x image request .number
+  pub priority-is : priority ≡ advance x image request .priority
+  pub examined-is : examined ≡ advance x image request .examined
+  pub trials-is : trials ≡ advance x image request .trials
 
 -- the listing: the lent list, and the answer's numbers
 pub record ListTo (image request : List ℕ) (case registration : ℕ) (before after : List ℕ) (number place count examined trials : ℕ) : Type 0 where

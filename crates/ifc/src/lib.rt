@@ -1,6 +1,6 @@
 // The calls as C makes them: numbers and bytes in, numbers out. Nothing but passing on.
 ghost use mathlib.Core.Path.{_≡_};
-ghost use Rattle.ifc.specs.Exports.{CheckTo, OpenTo, ReportTo, AdvanceTo, ListTo, ServerTo, InformationTo, as-number};
+ghost use Rattle.ifc.specs.Exports.{session-of, CheckTo, OpenTo, ReportTo, AdvanceTo, ListTo, ServerTo, InformationTo, as-number};
 use profile::Checked;
 use profile::Lookup;
 use profile::check;
@@ -61,7 +61,7 @@ pub extern "C" fn ifc_advance(
     examined: &mut u32,
     trials: &mut u32,
 ) -> u32
-    ensures { λ r. ⌜ AdvanceTo case (now (state .entry)) (now (forwarded .entry)) (now (last .entry)) (now (handling .entry)) (now (image .entry)) (now (request .entry)) r (now (state .exit)) (now (forwarded .exit)) (now (last .exit)) (now (handling .exit)) (now (place .exit)) (now (outcome .exit)) (now (criterion .exit)) (now (priority .exit)) (now (examined .exit)) (now (trials .exit)) ⌝ }
+    ensures { λ r. ⌜ AdvanceTo (session-of case (now (state .entry)) (now (forwarded .entry)) (now (last .entry)) (now (handling .entry))) (now (image .entry)) (now (request .entry)) r (now (state .exit)) (now (forwarded .exit)) (now (last .exit)) (now (handling .exit)) (now (place .exit)) (now (outcome .exit)) (now (criterion .exit)) (now (priority .exit)) (now (examined .exit)) (now (trials .exit)) ⌝ }
 {
     let x = Session {
         case,

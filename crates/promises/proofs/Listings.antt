@@ -2,8 +2,8 @@
 use mathlib.Core.Bool.{Bool, not}
 use mathlib.Core.Option.{Option}
 use mathlib.Core.Path.{_≡_, refl, sym, ap, _∙_, subst}
-use Prim.Native.Nat.{ℕ, suc}
-use mathlib.Core.List.{List, [], _∷_, _++_}
+use Prim.Native.Nat.{ℕ}
+use mathlib.Core.List.{List, _++_}
 use lib.ListN.{length, drop}
 use lib.Dec.{leb, le→leb}
 use Rattle.octets.specs.Lists.{pick, only, total}
@@ -16,12 +16,9 @@ use Rattle.rows.specs.Rows.{Given}
 use Rattle.fitting.specs.Fitting.{criterion-fits, criterion-trials}
 use Rattle.route.specs.Order.{Numbered, numbered, rising}
 use Rattle.route.specs.Listing.{Listing, numbers, listed, refuse-list, filled, fill, fill-with, list-read, list-judged, listing}
+use Rattle.route.proofs.Ordered.{numbers-length}
 use Rattle.route.proofs.Rising.{rising-strict, rising-has, rising-only, only-apart, numbered-apart}
 use Rattle.promises.specs.Walks.{Listable, ListsAll}
-
-numbers-length : (l : List Numbered) → length (numbers l) ≡ length l
-numbers-length [] = refl
-numbers-length (n ∷ ns) = ap suc (numbers-length ns)
 
 module _ (g : Given) (image r before : List ℕ) (p : Profile) (q : Request) (h : Listable g image r before p q) where
   fits : Numbered → Bool

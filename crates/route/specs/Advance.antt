@@ -23,18 +23,22 @@ use Rattle.route.specs.declared.Advanced.{Advanced}
 abbrev pub refuse : Session → ℕ → ℕ → Advanced
 refuse x n place = record { refusal = n; place = place; outcome = 0; number = 0; priority = 0; examined = 0; trials = 0; session = x }
 
--- "forward (criterion's number from 0 in the image, priority), session waiting"
-abbrev pub forward : Session → Numbered → ℕ → ℕ → Advanced
-forward x n examined trials = record {
+-- "forward (criterion's number from 0 in the image, priority), session waiting", which keeps that priority and default
+abbrev pub forward-of : Session → ℕ → ℕ → ℕ → ℕ → ℕ → Advanced
+forward-of x number priority handling examined trials = record {
   refusal = 0;
   place = 0;
   outcome = 1;
-  number = n .number;
-  priority = priority n;
+  number = number;
+  priority = priority;
   examined = examined;
   trials = trials;
-  session = record { case = x .case; state = waiting; forwarded = 1; last = priority n; handling = n .criterion .handling };
+  session = record { case = x .case; state = waiting; forwarded = 1; last = priority; handling = handling };
 }
+
+-- of a criterion
+abbrev pub forward : Session → Numbered → ℕ → ℕ → Advanced
+forward x n = forward-of x (n .number) (priority n) (n .criterion .handling)
 
 -- "or route, session finished (both numbers 0, as when refused)"
 abbrev pub route : Session → ℕ → ℕ → Advanced
