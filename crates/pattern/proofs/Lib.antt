@@ -8,6 +8,7 @@ pub mod Drawing
 pub mod Elements
 pub mod Filling
 pub mod Finding
+pub mod Hunt
 pub mod Items
 pub mod Listing
 pub mod Loading

@@ -151,7 +151,7 @@ module _ (h : Shape) (sets : List (List ℕ)) (before : List ℕ) (text : List �
   abbrev M : Machine
   M = machine-of h sets before
 
-  abbrev tested : ℕ → Bool → ℕ → Bool
+  abbrev pub tested : ℕ → Bool → ℕ → Bool
   tested j e live = test h sets before (eqb j 0) e live
 
   at-end : Scanned h sets before 0 0 (drop (length text) text)

@@ -1,6 +1,6 @@
 -- A machine of at most 60 positions, and where a part of a text that it takes begins. It knows no edition of patterns.
 use mathlib.Core.Path.{_≡_}
-use mathlib.Core.Bool.{Bool, true, false, not, _&&_}
+use mathlib.Core.Bool.{Bool, true, false, not, _&&_, _||_}
 use mathlib.Core.List.{List, [], _∷_}
 use Prim.Native.Nat.{ℕ, _+_, _<_, _≤_}
 use lib.Dec.{T, eqb, ltb}
@@ -78,3 +78,23 @@ pub record Stepped (sets : List (List ℕ)) (before : List ℕ) (size candidates
   pub kept : (k : ℕ) → bit live k ≡ (bit candidates k && not (bit left k) && met size sets b k)
   pub back : (p : ℕ) → T (bit next p) → (q : ℕ) × T (bit live q) × T (bit (getD before q 0) p)
   pub forth : (p q : ℕ) → T (bit live q) → T (bit (getD before q 0) p) → T (bit next p)
+
+-- ---- what a test need not look at
+
+-- the empty part fits somewhere in a text of n bytes that is not empty
+abbrev pub null-somewhere : Shape → ℕ → Bool
+null-somewhere h n = (h .head || h .tail) || (h .middle && ltb 1 n)
+
+-- A text that begins with the byte b has no part: one could begin at the text's start alone, and no position that may begin it meets b.
+pub record Shut (h : Shape) (sets : List (List ℕ)) (b : ℕ) : Type 0 where
+  pub not-inner : h .inner ≡ 0
+  pub not-start : (p : ℕ) → T (bit (h .start) p) → T (met (h .size) sets b p) → ⊥
+
+-- r, where it is a position, is the only one of the mask
+abbrev pub Only : ℕ → ℕ → Type 0
+Only mask r = r < 60 → (k : ℕ) → T (bit mask k) → k ≡ r
+
+-- no byte of the set stands at a place above r, up to `from`
+pub record LastMet (set text : List ℕ) (from r : ℕ) : Type 0 where
+  pub within : r ≤ from
+  pub none : (k : ℕ) → r < k → k ≤ from → in-set set (getD text k 0) ≡ false

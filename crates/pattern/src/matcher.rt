@@ -5,9 +5,9 @@ ghost use mathlib.Core.List.{[]};
 ghost use Prim.Native.Nat.{_+_, _≤_, _<_};
 ghost use lib.Bits.{bitAnd};
 ghost use lib.Dec.{eqb};
-ghost use lib.ListN.{getD};
+ghost use lib.ListN.{getD, length};
 ghost use Rattle.octets.specs.Lists.{pick};
-ghost use Rattle.pattern.specs.Machine.{Stepped, Leftmost, Found, first-mask, last-mask, null-at, machine-of};
+ghost use Rattle.pattern.specs.Machine.{Stepped, Leftmost, Found, Only, Shut, LastMet, first-mask, last-mask, null-at, null-somewhere, machine-of};
 ghost use Rattle.pattern.specs.Sets.{in-set};
 
 // Which positions may begin a part, at the text's start or elsewhere; which may end one, at the text's end or elsewhere; and
@@ -139,26 +139,91 @@ pub(crate) fn leftmost(h: Shape, sets: &[[u64; 4]; 60], before: &[u64; 60], text
     best
 }
 
-// Whether some part of the text fits: the same scan, which ends at the first place that it finds.
+// ---- what a test need not look at
+
+// Whether the empty part fits somewhere in a text of n bytes that is not empty.
+fn empty_somewhere(h: Shape, n: usize) -> bool
+    ensures { λ r. ⌜ r ≡ null-somewhere h n ⌝ }
+{
+    h.head | h.tail | (h.middle & (1 < n))
+}
+
+// Whether a text that begins with the byte b has no part: one could begin at the text's start alone, and b is met by no position that
+// may begin it.
+fn shut(h: Shape, sets: &[[u64; 4]; 60], before: &[u64; 60], b: u8) -> bool
+    requires { ⌜ h .size ≤ 60 ⌝ }
+    ensures { λ r. ⌜ (r ≡ true → Shut h (now (sets .entry)) b) ⌝ }
+{
+    if h.inner != 0 {
+        return false;
+    }
+    let f = step(sets, before, h.size, h.start, b);
+    f.live == 0
+}
+
+// The only position of a mask; 60 if it has none or several.
+fn only(mask: u64) -> usize
+    ensures { λ r. ⌜ Only mask r ⌝ }
+{
+    if mask == 0 {
+        return 60;
+    }
+    if mask & (mask - 1) != 0 {
+        return 60;
+    }
+    u64::trailing_zeros(mask) as usize
+}
+
+// The last place up to a place, and above 0, where position p meets the byte; 0 if there is none.
+fn last_met(sets: &[[u64; 4]; 60], p: usize, text: &[u8], from: usize) -> usize
+    requires { ⌜ (p < 60) × (from < length (now text)) ⌝ }
+    ensures { λ r. ⌜ LastMet (getD (now (sets .entry)) p []) (now (text .entry)) from r ⌝ }
+{
+    let mut i = from;
+    while 0 < i {
+        if has(sets, p, text[i]) {
+            return i;
+        }
+        i -= 1;
+    }
+    0
+}
+
+// Whether some part of the text fits: the same scan, which ends at the first place that it finds, or where nothing can be live any more.
+// Where nothing is live and one position alone may end a part, it goes on at the next byte that this one meets.
 pub(crate) fn found(h: Shape, sets: &[[u64; 4]; 60], before: &[u64; 60], text: &[u8]) -> bool
     requires { ⌜ h .size ≤ 60 ⌝ }
     ensures { λ r. ⌜ Found (machine-of h (now (sets .entry)) (now (before .entry))) (now (text .entry)) r ⌝ }
 {
-    let end = text.len();
-    let size = h.size;
-    if begins(h, end == 0, true, 0) {
+    let n = text.len();
+    if n == 0 {
+        return h.whole;
+    }
+    if empty_somewhere(h, n) {
         return true;
     }
-    let mut next: u64 = 0;
-    let mut i = end;
+    if shut(h, sets, before, text[0]) {
+        return false;
+    }
+    let door = only(h.stops);
+    let mut candidates = h.ends;
+    let mut i = n - 1;
     while 0 < i {
-        let stop = last_of(h, i == end);
-        i -= 1;
-        let f = step(sets, before, size, next | stop, text[i]);
-        next = f.next;
-        if begins(h, i == 0, false, f.live) {
+        let f = step(sets, before, h.size, candidates, text[i]);
+        if h.inner & f.live != 0 {
             return true;
         }
+        candidates = f.next | h.stops;
+        if candidates == 0 {
+            return false;
+        }
+        i -= 1;
+        if f.next == 0 {
+            if door < 60 {
+                i = last_met(sets, door, text, i);
+            }
+        }
     }
-    false
+    let f = step(sets, before, h.size, candidates, text[0]);
+    h.start & f.live != 0
 }
