@@ -169,10 +169,8 @@ static size_t next_value(struct slice v, size_t from, size_t *start, size_t *end
     return k + 1;
 }
 
-/* The name stands in the room first, then the value. */
-static uint32_t count_values(struct slice written, struct slice raw, uint8_t *room) {
-    for (size_t i = 0; i < written.length; i++) room[i] = written.at[i];
-    if (never_cut((struct slice){room, written.length})) return 1;
+static uint32_t count_values(struct slice name, struct slice raw, uint8_t *room) {
+    if (never_cut(name)) return 1;
     struct slice v = {room, normalise(raw, room)};
     uint32_t n = 0;
     size_t start, end;

@@ -20,7 +20,7 @@
  *   is 0, and so may the list. All other pointers must be valid. Lent numbers and the list overlap nothing else that is lent.
  * - There is no global state. Any number of threads may call at once, also over one image; a session belongs to one thread at a
  *   time, as any variable does.
- * - Stack: about 256 KB for a call; docs/TRUST.md has the figure that was measured.
+ * - Stack: about 160 KB for a call; docs/TRUST.md has the figure that was measured.
  * - Time is bounded by the limits above; bench/run shows how it grows.
  *
  * C99 and C++. Link with libifc.a. */

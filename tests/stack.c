@@ -1,6 +1,6 @@
-/* How much stack a call needs, at the largest inputs. Each call runs on a thread that has 256 KB and a little for the thread
+/* How much stack a call needs, at the largest inputs. Each call runs on a thread that has 160 KB and a little for the thread
  * library, above an inaccessible page; the stack is painted before the call, and the deepest place that lost its paint is told.
- * A call that needs more than 256 KB ends the program. */
+ * A call that needs more than 160 KB ends the program. */
 #include <pthread.h>
 #include <stddef.h>
 #include <stdint.h>
@@ -10,7 +10,7 @@
 #include <sys/mman.h>
 #include "sample.h"
 
-enum { DOCUMENTED = 262144, LIBRARY = 32768, PAGE = 4096, PAINT = 0xA5, BESIDE = 1024 };
+enum { DOCUMENTED = 163840, LIBRARY = 32768, PAGE = 4096, PAINT = 0xA5, BESIDE = 1024 };
 
 static uint8_t *stack;
 static uint8_t image[IMAGE_MOST], request[65535];

@@ -1,10 +1,10 @@
 -- Lent places that are filled from the front: n of the numbers to write are written over what stood there.
-use mathlib.Core.Path.{_≡_, refl, sym, ap, _∙_, subst}
+use mathlib.Core.Path.{_≡_, refl, sym, ap, _∙_}
 use mathlib.Core.List.{List, [], _∷_, _++_, append-nil}
-use Prim.Native.Nat.{ℕ, suc, _+_, _≤_, _<_, zero-le}
+use Prim.Native.Nat.{ℕ, suc, _+_, _≤_, _<_}
 use native.Mathlib.Numerals.{add-one}
 use native.Mathlib.Omega.{arith}
-use lib.ListN.{length, getD, drop, set, drop-of-length-le, length-append, length-drop}
+use lib.ListN.{length, getD, drop, set, length-append, length-drop}
 use lib.Seq.{drop-cons, set-at, append-snoc}
 use Rattle.request.specs.Places.{over}
 
@@ -41,37 +41,3 @@ written-count w = sym (w .long) ∙ ap length (sym (append-nil (w .out)) ∙ w .
 -- the place keeps its length
 pub written-length : {all d e : List ℕ} {n : ℕ} {rest : List ℕ} → Written all d e n rest → n ≤ length d → length e ≡ length d
 written-length {all} {d} {e} {n} w inside = omega (arith, ap length (w .holds), length-append (w .out) (drop n d), w .long, length-drop n d)
-
--- ---- a copy
-
--- i bytes of src are copied
-pub record Copying (src d e : List ℕ) (i : ℕ) : Type 0 where
-  pub inside : i ≤ length src
-  pub so-far : Written src d e i (drop i src)
-
-pub copying-first : (src d : List ℕ) → Copying src d d 0
-copying-first src d = record { inside = zero-le; so-far = written-start src d }
-
-module _ (src d e : List ℕ) (i : ℕ) (k : Copying src d e i) (fit : length src ≤ length d) where
-  pub copying-length : length e ≡ length d
-  copying-length = written-length (k .so-far) (omega (arith, k .inside, fit))
-
-  module _ (more : i < length src) where
-    pub copying-place : i < length e
-    copying-place = omega (arith, copying-length, fit)
-
-    pub copying-next : Copying src d (set e i (getD src i 0)) (i + 1)
-    copying-next = record {
-      inside = omega arith;
-      so-far =
-          written-put
-          (subst (Written src d e i) (drop-cons src i 0 more ∙ ap (λ (j : ℕ). getD src i 0 ∷ drop j src) (sym (add-one i))) (k .so-far)) (omega (arith, fit));
-    }
-
-module _ (src d e : List ℕ) (i : ℕ) (k : Copying src d e i) (past : length src ≤ i) where
-  pub copying-count : i ≡ length src
-  copying-count = omega (arith, k .inside)
-
-  pub copying-end : e ≡ over src d
-  copying-end =
-      written-end (subst (Written src d e i) (drop-of-length-le src past) (k .so-far)) ∙ ap (λ (j : ℕ). src ++ drop j d) copying-count

@@ -424,17 +424,11 @@ pub fn field_at(
     }
 }
 
-// Writes a name as it is matched to the front of the lent place. It answers how many bytes it wrote. Whoever matches a name takes it from here.
-pub fn name_into(written: &[u8], dst: &mut [u8]) -> usize
-    requires { ⌜ length (name-as-matched (now written)) ≤ length (now dst) ⌝ }
-    ensures { λ r. ⌜ (r ≡ length (name-as-matched (now (written .entry)))) × (now (dst .exit) ≡ over (name-as-matched (now (written .entry))) (now (dst .entry))) ⌝ }
+// The name of a field as it is matched. Whoever matches a name takes it from here.
+pub fn name_of(written: &[u8]) -> &[u8]
+    ensures { λ r. ⌜ now r ≡ name-as-matched (now (written .entry)) ⌝ }
 {
-    let mut i: usize = 0;
-    while i < written.len() {
-        dst[i] = written[i];
-        i += 1;
-    }
-    i
+    written
 }
 
 // ---- values

@@ -43,7 +43,7 @@ module _ (v : List ℕ) where
   pub piecing-end : (p n : ℕ) → Piecing v p n → length v < p → n ≡ length (values-from v 0)
   piecing-end p n w h = omega (arith, w .sum, ap length (values-past v p h))
 
--- ---- a name and a value in their rooms
+-- ---- a value in its room
 
 module _ (raw before room : List ℕ) (n : ℕ) (en : n ≡ length (reduced raw)) (er : room ≡ over (reduced raw) before) where
   pub reduced-inside : n ≤ length room
@@ -52,20 +52,17 @@ module _ (raw before room : List ℕ) (n : ℕ) (en : n ≡ length (reduced raw)
   pub reduced-short : length raw ≤ 65535 → length (take (n - 0) room) ≤ 65535
   reduced-short h = omega (arith, ap length (over-front (reduced raw) before room n en er), reduced-le raw)
 
--- the name stands in the room first, then the value
-module _ (written blank named : List ℕ) (k : ℕ) (ek : k ≡ length (name-as-matched written)) (ew : named ≡ over (name-as-matched written) blank) where
-  pub name-inside : k ≤ length named
-  name-inside = over-inside (name-as-matched written) blank named k ek ew
+-- ---- by the name as it is matched
 
-  module _ (r : Bool) (e : r ≡ never-cut (take (k - 0) named)) where
-    by-name : r ≡ never-cut (name-as-matched written)
-    by-name = e ∙ ap never-cut (over-front (name-as-matched written) blank named k ek ew)
+module _ (written name : List ℕ) (en : name ≡ name-as-matched written) (r : Bool) (e : r ≡ never-cut name) where
+  by-name : r ≡ never-cut (name-as-matched written)
+  by-name = e ∙ ap never-cut en
 
-    pub one-value : (raw : List ℕ) → r ≡ true → 1 ≡ length (values-of (name-as-matched written) (reduced raw))
-    one-value raw h = sym (ap length (values-whole (name-as-matched written) (reduced raw) (sym by-name ∙ h)))
+  pub one-value : (raw : List ℕ) → r ≡ true → 1 ≡ length (values-of (name-as-matched written) (reduced raw))
+  one-value raw h = sym (ap length (values-whole (name-as-matched written) (reduced raw) (sym by-name ∙ h)))
 
-    pub pieces-counted : r ≡ false → (raw before room : List ℕ) (n : ℕ) → n ≡ length (reduced raw) → room ≡ over (reduced raw) before
-        → (m : ℕ) → m ≡ length (values-from (take (n - 0) room) 0) → m ≡ length (values-of (name-as-matched written) (reduced raw))
-    pieces-counted h raw before room n en er m em =
-        em ∙ ap (λ (l : List ℕ). length (values-from l 0)) (over-front (reduced raw) before room n en er)
-        ∙ sym (ap length (values-cut (name-as-matched written) (reduced raw) (sym by-name ∙ h)))
+  pub pieces-counted : r ≡ false → (raw before room : List ℕ) (n : ℕ) → n ≡ length (reduced raw) → room ≡ over (reduced raw) before
+      → (m : ℕ) → m ≡ length (values-from (take (n - 0) room) 0) → m ≡ length (values-of (name-as-matched written) (reduced raw))
+  pieces-counted h raw before room n en er m em =
+      em ∙ ap (λ (l : List ℕ). length (values-from l 0)) (over-front (reduced raw) before room n en er)
+      ∙ sym (ap length (values-cut (name-as-matched written) (reduced raw) (sym by-name ∙ h)))

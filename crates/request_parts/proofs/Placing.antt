@@ -91,9 +91,6 @@ module _ (s starts colons : List ℕ) (head fields : ℕ) (k : Placed s starts c
       pub name-inside : f .stop ≤ length s
       name-inside = omega (arith, said .colon-after, said .value-order, value-inside)
 
-      pub name-fits : (room : List ℕ) → length s ≤ length room → length (part s (f .name) (f .stop)) ≤ length room
-      name-fits room h = omega (arith, length-part s (f .name) (f .stop) name-order name-inside, name-inside)
-
       pub value-fits : (room : List ℕ) → length s ≤ length room → length (part s (f .value) (f .end)) ≤ length room
       value-fits room h = omega (arith, length-part s (f .value) (f .end) value-order value-inside, value-inside)
 

@@ -65,12 +65,9 @@ module _ (s starts colons : List ℕ) (p : Places) (k : Placed s starts colons p
     pub value-short : length (part s (f .value) (f .end)) ≤ 65535
     value-short = omega (arith, length-part s (f .value) (f .end) value-order inside, inside, short s starts colons p k)
 
-    -- a room for the whole request has room for each part of it
-    pub name-room : (m : ℕ) → length s ≤ m → length (part s (f .name) (f .stop)) ≤ m
-    name-room m h = omega (arith, length-part s (f .name) (f .stop) name-order name-inside, name-inside)
-
-    pub value-room : (m : ℕ) → length s ≤ m → length (part s (f .value) (f .end)) ≤ m
-    value-room m h = omega (arith, length-part s (f .value) (f .end) value-order inside, inside)
+    -- a room for the whole request has room for each value of it
+    pub value-room : (room : List ℕ) → length s ≤ length room → length (part s (f .value) (f .end)) ≤ length room
+    value-room room h = omega (arith, length-part s (f .value) (f .end) value-order inside, inside)
 
     module _ (h : List ℕ) (with : Bool) (c : List ℕ) (fits : Bool) (trials : ℕ) (w : Fielding h with c s i fits trials) (r : Verdict)
         (er : r ≡ item-row true h with c (name-as-matched (part s (f .name) (f .stop)))

@@ -3,16 +3,14 @@ use mathlib.Core.Bool.{Bool, true, false, not, or-false}
 use mathlib.Core.Path.{_≡_, refl, sym, ap, ap₂, _∙_}
 use mathlib.Core.List.{List, [], _∷_}
 use Prim.Native.Nat.{ℕ, _+_, _-_, _*_, _≤_}
-use native.Mathlib.Nat.{sub-zero, le-refl}
+use native.Mathlib.Nat.{le-refl}
 use native.Mathlib.Omega.{arith}
-use lib.ListN.{length, take, drop, length-append}
-use lib.Seq.{take-at}
+use lib.ListN.{length}
 use borrow.Author.Tests.{not-true, not-false}
 use Rattle.octets.specs.Lists.{pick, total}
 use Rattle.octets.proofs.Kept.{total-mono, total-const}
 use Rattle.pattern.specs.Answers.{meets-text}
 use Rattle.request.specs.Body.{Line}
-use Rattle.request.specs.Places.{over}
 use Rattle.request.specs.Request.{Field, name-as-matched}
 use Rattle.request.specs.Values.{reduced, values-of}
 use Rattle.rows.specs.Trying.{values-row, named-row, item-row, field-row, line-row}
@@ -49,39 +47,26 @@ module _ (h : List ℕ) (with : Bool) (c name value : List ℕ) (m : Bool) (em :
       item-with false h with c name (value ∷ []) m em k w (record { fits = v; trials = 1 })
       (ap (λ (b : Bool). record { fits = b; trials = 1 }) (ev ∙ sym (or-false (meets-text false c value))))
 
--- ---- the name of a field, as it is matched, in its room
+-- ---- a field by its name as it is matched
 
--- it fits a room for what is written
-pub matched-fits : (written room : List ℕ) → length written ≤ length room → length (name-as-matched written) ≤ length room
-matched-fits written room h = omega arith
+module _ (written name : List ℕ) (en : name ≡ name-as-matched written) (h : List ℕ) (with : Bool) (c raw : List ℕ) (m : Bool) (em : m ≡ meets-text true h name) where
+  abbrev there : Verdict
+  there = item-row true h with c (name-as-matched written) (values-of (name-as-matched written) (reduced raw))
 
-module _ (written before room : List ℕ) (n : ℕ) (en : n ≡ length (name-as-matched written)) (er : room ≡ over (name-as-matched written) before) where
-  pub name-inside : n ≤ length room
-  name-inside = omega (arith, en, ap length er, length-append (name-as-matched written) (drop (length (name-as-matched written)) before))
+  moved : m ≡ meets-text true h (name-as-matched written)
+  moved = em ∙ ap (meets-text true h) en
 
-  name-there : take (n - 0) room ≡ name-as-matched written
-  name-there =
-      ap (take (n - 0)) er ∙ ap (λ (k : ℕ). take k (over (name-as-matched written) before)) (sub-zero n)
-      ∙ take-at (name-as-matched written) (drop (length (name-as-matched written)) before) n (sym en)
+  pub field-no : not m ≡ true → _≡_ {A = Verdict} (record { fits = false; trials = 1 }) there
+  field-no k = item-no true h with c (name-as-matched written) (values-of (name-as-matched written) (reduced raw)) m moved k
 
-  module _ (h : List ℕ) (with : Bool) (c raw : List ℕ) (m : Bool) (em : m ≡ meets-text true h (take (n - 0) room)) where
-    abbrev there : Verdict
-    there = item-row true h with c (name-as-matched written) (values-of (name-as-matched written) (reduced raw))
+  pub field-bare : not m ≡ false → not with ≡ true → _≡_ {A = Verdict} (record { fits = true; trials = 1 }) there
+  field-bare k w = item-bare true h with c (name-as-matched written) (values-of (name-as-matched written) (reduced raw)) m moved k w
 
-    moved : m ≡ meets-text true h (name-as-matched written)
-    moved = em ∙ ap (meets-text true h) name-there
-
-    pub field-no : not m ≡ true → _≡_ {A = Verdict} (record { fits = false; trials = 1 }) there
-    field-no k = item-no true h with c (name-as-matched written) (values-of (name-as-matched written) (reduced raw)) m moved k
-
-    pub field-bare : not m ≡ false → not with ≡ true → _≡_ {A = Verdict} (record { fits = true; trials = 1 }) there
-    field-bare k w = item-bare true h with c (name-as-matched written) (values-of (name-as-matched written) (reduced raw)) m moved k w
-
-    pub field-with : not m ≡ false → not with ≡ false → (v : Verdict) → v ≡ values-row c (values-of (take (n - 0) room) (reduced raw))
-        → _≡_ {A = Verdict} (record { fits = v .fits; trials = 1 + v .trials }) there
-    field-with k w v ev =
-        item-with true h with c (name-as-matched written) (values-of (name-as-matched written) (reduced raw)) m moved k w v
-        (ev ∙ ap (λ (l : List ℕ). values-row c (values-of l (reduced raw))) name-there)
+  pub field-with : not m ≡ false → not with ≡ false → (v : Verdict) → v ≡ values-row c (values-of name (reduced raw))
+      → _≡_ {A = Verdict} (record { fits = v .fits; trials = 1 + v .trials }) there
+  field-with k w v ev =
+      item-with true h with c (name-as-matched written) (values-of (name-as-matched written) (reduced raw)) m moved k w v
+      (ev ∙ ap (λ (l : List ℕ). values-row c (values-of l (reduced raw))) en)
 
 -- ---- how many trials
 

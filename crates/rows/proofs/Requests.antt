@@ -86,8 +86,8 @@ module _ (s starts colons : List ℕ) (p : Places) (k : Placed s starts colons p
     inside = more;
   }
 
-  pub index-few : (i : ℕ) → i < p .fields → i ≤ 65535
-  index-few i more = omega (arith, few s starts colons (p .head) (p .fields) i (indexed-at i more))
+  pub index-room : (i : ℕ) → i < p .fields → i + 1 < 18446744073709551616
+  index-room i more = omega (arith, few s starts colons (p .head) (p .fields) i (indexed-at i more))
 
   pub field-said : (i : ℕ) → i < p .fields → (f : FieldParts) → f ≡ field-parts (head-of s) i → FieldSays s (request-of s) (p .head) i f
   field-said i more f e =

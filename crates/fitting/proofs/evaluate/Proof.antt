@@ -15,28 +15,25 @@ returns c = evaluated-out _ _ _ _ (c .before .before .read-criterion .ensures) _
 
 try-rows-requires : tie.Need-try-rows-requires
 try-rows-requires c κs =
-    let entry = c .before .before .before .before .before .before .before .before .before .before .before in
-    let bounds = trigger-bounds _ _ _ _ (c .before .before .before .before .read-criterion .ensures) (entry .pre .1 .1 .0 .2) in
-    (entry .pre .0, (ruled-front _ _ _ _ (entry .pre .1 .0) _ (bounds .1), (entry .pre .1 .1 .1 .0, (search needs, search needs, bounds .0))))
+    let entry = c .before .before .before .before .before .before .before .before .before in
+    let bounds = trigger-bounds _ _ _ _ (c .before .before .before .read-criterion .ensures) (entry .pre .1 .1 .0 .2) in
+    (entry .pre .0, (ruled-front _ _ _ _ (entry .pre .1 .0) _ (bounds .1), (entry .pre .1 .1 .1 .0, (search needs, bounds .0))))
 
 trigger-at-requires : tie.Need-trigger-at-requires
 trigger-at-requires c κs =
-    let entry = c .before .before .before .before .before .before .before .before .before .before .before .before .before .before .before .before in
-    let bounds = trigger-bounds _ _ _ _ (c .before .before .before .before .before .before .before .before .before .read-criterion .ensures) (entry .pre .1 .1 .0 .2) in
+    let entry = c .before .before .before .before .before .before .before .before .before .before .before .before in
+    let bounds = trigger-bounds _ _ _ _ (c .before .before .before .before .before .before .read-criterion .ensures) (entry .pre .1 .1 .0 .2) in
     let ruled = entry .pre .1 .0 in
     (entry .pre .1 .1 .0 .0, ruled .size, omega (arith, bounds .1, ruled .inside, ruled .size), bounds .0)
 
 same-length : tie.Need-same-length
 same-length c = search needs
 
-same-length-2 : tie.Need-same-length-2
-same-length-2 c = search needs
-
 returns-2 : tie.Need-returns-2
 returns-2 c =
-    let entry = c .before .before .before .before .before .before .before .before .before .before .before .before .before .before .before .before .before in
-    let read = c .before .before .before .before .before .before .before .before .before .before .read-criterion .ensures in
-    evaluated-in _ _ _ _ read _ _ _ _ _ (c .before .before .before .before .before .before .before .before .before .part-in .ensures) (c .before .before .before .before .before .before .before .before .if1 .left) _ _ (c .before .before .before .before .before .try-rows .ensures) (trigger-bounds _ _ _ _ read (entry .pre .1 .1 .0 .2) .0) (c .trigger-at .ensures)
+    let entry = c .before .before .before .before .before .before .before .before .before .before .before .before .before in
+    let read = c .before .before .before .before .before .before .before .read-criterion .ensures in
+    evaluated-in _ _ _ _ read _ _ _ _ _ (c .before .before .before .before .before .before .part-in .ensures) (c .before .before .before .before .before .if1 .left) _ _ (c .before .before .before .try-rows .ensures) (trigger-bounds _ _ _ _ read (entry .pre .1 .1 .0 .2) .0) (c .trigger-at .ensures)
 
 pub evaluate-spec : {M : Type 1} → statement M
 evaluate-spec =
@@ -48,5 +45,4 @@ evaluate-spec =
     try-rows-requires
     trigger-at-requires
     same-length
-    same-length-2
     returns-2)

@@ -18,9 +18,6 @@ try-row-requires c κs = (search needs, (search row-matchable, (search needs, se
 same-length : tie.Need-same-length
 same-length c = search needs
 
-same-length-2 : tie.Need-same-length-2
-same-length-2 c = search needs
-
 returns : tie.Need-returns
 returns c = search tried-nth
 
@@ -33,5 +30,4 @@ try-nth-spec =
     read-row-requires
     try-row-requires
     same-length
-    same-length-2
     returns)

@@ -12,21 +12,21 @@ use Rattle.fitting.proofs.try_rows.Statement.{statement}
 use Rattle.fitting.proofs.try_rows.Tie as tie
 
 abbrev Inv-loop : tie.InvT-loop
-Inv-loop image table strings start first count s starts colons places case registration names₀ room₀ mask₀ trials₀ i₀ names room mask trials i = Marking (fits-in (request-of s) (given case registration) (stored-in image strings table) image start) (trials-in (request-of s) (stored-in image strings table) image start) first count i mask trials × (length names ≡ length names₀) × (length room ≡ length room₀)
+Inv-loop image table strings start first count s starts colons places case registration room₀ mask₀ trials₀ i₀ room mask trials i = Marking (fits-in (request-of s) (given case registration) (stored-in image strings table) image start) (trials-in (request-of s) (stored-in image strings table) image start) first count i mask trials × (length room ≡ length room₀)
 
 abbrev μ-loop : tie.MeasureT-loop
-μ-loop image table strings start first count s starts colons places case registration names₀ room₀ mask₀ trials₀ i₀ names room mask trials i = count - i
+μ-loop image table strings start first count s starts colons places case registration room₀ mask₀ trials₀ i₀ room mask trials i = count - i
 
 loop-holds : tie.Need-loop-holds Inv-loop μ-loop
-loop-holds c = (search marking-first, search needs, search needs)
+loop-holds c = (search marking-first, search needs)
 
 add-try-nth : tie.Need-add-try-nth Inv-loop μ-loop
 add-try-nth c = search needs
 
 try-nth-requires : tie.Need-try-nth-requires Inv-loop μ-loop
 try-nth-requires c κs =
-    let entry = c .before .before .before .before .before .before .before .before .before .before in
-    (search needs, (ruled-front _ _ _ _ (entry .pre .1 .0) _ (omega (arith, c .before .before .loop-test .taken)), (search needs, search needs)))
+    let entry = c .before .before .before .before .before .before .before .before in
+    (search needs, (ruled-front _ _ _ _ (entry .pre .1 .0) _ (omega (arith, c .before .loop-test .taken)), (search needs, search needs)))
 
 mark-requires : tie.Need-mark-requires Inv-loop μ-loop
 mark-requires c κs = search needs
@@ -41,13 +41,10 @@ loop-less : tie.Need-loop-less Inv-loop μ-loop
 loop-less c = search needs
 
 loop-again : tie.Need-loop-again Inv-loop μ-loop
-loop-again c = (search marking-next, search needs, search needs)
+loop-again c = (search marking-next, search needs)
 
 same-length : tie.Need-same-length Inv-loop μ-loop
 same-length c = search needs
-
-same-length-2 : tie.Need-same-length-2 Inv-loop μ-loop
-same-length-2 c = search needs
 
 returns : tie.Need-returns Inv-loop μ-loop
 returns c = search marking-end
@@ -67,5 +64,4 @@ try-rows-spec =
     loop-less
     loop-again
     same-length
-    same-length-2
     returns)

@@ -2,7 +2,7 @@ use mathlib.Core.Path.{_≡_}
 use Prim.Native.Nat.{_-_, _≤_}
 use lib.ListN.{length}
 use borrow.Author.Needs.{needs}
-use Rattle.request_parts.proofs.Placing.{Fielding, fielding-first, fielding-end, indexed-at, index-room, name-order, name-inside, value-order, value-inside, name-fits, value-fits, value-short, fielding-next, fielding-room}
+use Rattle.request_parts.proofs.Placing.{Fielding, fielding-first, fielding-end, indexed-at, index-room, name-order, name-inside, value-order, value-inside, value-fits, value-short, fielding-next, fielding-room}
 use Rattle.request_parts.proofs.count_all_values.Statement.{statement}
 use Rattle.request_parts.proofs.count_all_values.Tie as tie
 
@@ -37,7 +37,7 @@ part-count-values-end-2 : tie.Need-part-count-values-end-2 Inv-loop μ-loop
 part-count-values-end-2 c = search (needs, value-inside)
 
 count-values-requires : tie.Need-count-values-requires Inv-loop μ-loop
-count-values-requires c κs = (search (needs, name-fits), search (needs, value-fits), search value-short)
+count-values-requires c κs = (search (needs, value-fits), search value-short)
 
 add-n : tie.Need-add-n Inv-loop μ-loop
 add-n c = search (needs, fielding-room)

@@ -1,18 +1,17 @@
 use mathlib.Core.Path.{_≡_}
-use Prim.Native.Nat.{_-_}
-use native.Mathlib.Omega.{arith}
+use Prim.Native.Nat.{_-_, _≤_}
 use lib.ListN.{length}
 use borrow.Author.Needs.{needs}
-use Rattle.rows.proofs.Fielding.{Fielding, fielding-first, fielding-few, fielding-end, name-order, name-inside, value-order, value-inside, name-short, value-short, name-room, value-room, fielding-next, fielding-fit}
-use Rattle.rows.proofs.Requests.{indexed-at, index-few}
+use Rattle.rows.proofs.Fielding.{Fielding, fielding-first, fielding-few, fielding-end, name-order, name-inside, value-order, value-inside, name-short, value-short, value-room, fielding-next, fielding-fit}
+use Rattle.rows.proofs.Requests.{indexed-at, index-room}
 use Rattle.rows.proofs.try_fields.Statement.{statement}
 use Rattle.rows.proofs.try_fields.Tie as tie
 
 abbrev Inv-loop : tie.InvT-loop
-Inv-loop s starts colons h h-shape h-sets h-before with c c-shape c-sets c-before names₀ room₀ head fields fits₀ trials₀ i₀ names room fits trials i = Fielding h with c s i fits trials × (length names ≡ length names₀) × (length room ≡ length room₀)
+Inv-loop s starts colons h h-shape h-sets h-before with c c-shape c-sets c-before room₀ head fields fits₀ trials₀ i₀ room fits trials i = Fielding h with c s i fits trials × (length room ≡ length room₀) × (length s ≤ length room)
 
 abbrev μ-loop : tie.MeasureT-loop
-μ-loop s starts colons h h-shape h-sets h-before with c c-shape c-sets c-before names₀ room₀ head fields fits₀ trials₀ i₀ names room fits trials i = fields - i
+μ-loop s starts colons h h-shape h-sets h-before with c c-shape c-sets c-before room₀ head fields fits₀ trials₀ i₀ room fits trials i = fields - i
 
 loop-holds : tie.Need-loop-holds Inv-loop μ-loop
 loop-holds c = search (needs, fielding-first)
@@ -39,38 +38,22 @@ part-try-field-end-2 : tie.Need-part-try-field-end-2 Inv-loop μ-loop
 part-try-field-end-2 c = search (needs, value-inside)
 
 try-field-requires : tie.Need-try-field-requires Inv-loop μ-loop
-try-field-requires c κs = ((search name-short, search value-short), ((name-room _ _ _ _ (c .before .before .before .before .before .before .before .before .before .before .before .before .before .before .pre .0) _ (c .before .before .before .before .before .loop-test .taken) _ (c .before .before .before .before .field-at .ensures) _ (omega (arith, c .before .before .before .before .before .before .before .before .before .before .before .before .before .before .pre .1 .0 .0, c .before .before .before .before .before .before .loop .inv)), value-room _ _ _ _ (c .before .before .before .before .before .before .before .before .before .before .before .before .before .before .pre .0) _ (c .before .before .before .before .before .loop-test .taken) _ (c .before .before .before .before .field-at .ensures) _ (omega (arith, c .before .before .before .before .before .before .before .before .before .before .before .before .before .before .pre .1 .0 .1, c .before .before .before .before .before .before .loop .inv))), (search needs, search needs)))
+try-field-requires c κs = ((search name-short, search value-short), (search (needs, value-room), (search needs, search needs)))
 
--- The three needs after the call name the facts by their places: so far back `search` does not look.
 add-trials : tie.Need-add-trials Inv-loop μ-loop
-add-trials c =
-    let turn = c .before .before .before .before .before .before .before .before .before .before .before in
-    let entry = turn .before .before .before .before .before .before .before .before .before .before in
-    omega (arith, fielding-fit _ _ _ _ (entry .pre .0) _ (turn .before .loop-test .taken) _ (turn .field-at .ensures) _ _ _ _ _ (turn .before .before .loop .inv .0) _ (c .before .before .before .before .before .before .try-field .ensures .0))
+add-trials c = search (needs, fielding-fit)
 
 add-i : tie.Need-add-i Inv-loop μ-loop
-add-i c =
-    let turn = c .before .before .before .before .before .before .before .before .before .before .before in
-    let entry = turn .before .before .before .before .before .before .before .before .before .before in
-    omega (arith, index-few _ _ _ _ (entry .pre .0) _ (turn .before .loop-test .taken))
+add-i c = search (needs, index-room)
 
 loop-less : tie.Need-loop-less Inv-loop μ-loop
 loop-less c = search needs
 
 loop-again : tie.Need-loop-again Inv-loop μ-loop
-loop-again c =
-    let turn = c .before .before .before .before .before .before .before .before .before .before .before in
-    let entry = turn .before .before .before .before .before .before .before .before .before .before in (
-      fielding-next _ _ _ _ (entry .pre .0) _ (turn .before .loop-test .taken) _ (turn .field-at .ensures) _ _ _ _ _ (turn .before .before .loop .inv .0) _ (c .before .before .before .before .before .before .try-field .ensures .0),
-      search needs,
-      search needs,
-    )
+loop-again c = (search fielding-next, search needs, search needs)
 
 same-length : tie.Need-same-length Inv-loop μ-loop
 same-length c = search needs
-
-same-length-2 : tie.Need-same-length-2 Inv-loop μ-loop
-same-length-2 c = search needs
 
 returns : tie.Need-returns Inv-loop μ-loop
 returns c = (search fielding-end, search fielding-few)
@@ -95,5 +78,4 @@ try-fields-spec =
     loop-less
     loop-again
     same-length
-    same-length-2
     returns)

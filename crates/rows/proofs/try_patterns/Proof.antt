@@ -24,19 +24,16 @@ part-try-lines-end c = search needs
 
 -- So far back as the function's entry `search` does not look: its `pre` is given by its place.
 try-lines-requires : tie.Need-try-lines-requires
-try-lines-requires c κs = (body-short _ _ _ _ (c .before .before .before .before .before .before .before .before .before .before .before .before .before .before .before .before .before .before .before .before .pre .0), (ready-body _ _ _ _ _ (c .before .before .before .before .before .before .before .before .before .before .load .ensures .ready) (c .before .before .before .before .before .before .if1 .taken), search needs))
+try-lines-requires c κs = (body-short _ _ _ _ (c .before .before .before .before .before .before .before .before .before .before .before .before .before .before .before .before .before .before .before .pre .0), (ready-body _ _ _ _ _ (c .before .before .before .before .before .before .before .before .before .before .load .ensures .ready) (c .before .before .before .before .before .before .if1 .taken), search needs))
 
 returns : tie.Need-returns
-returns c = (patterns-body _ _ _ _ (c .before .before .before .before .before .before .before .before .before .before .before .before .before .before .before .before .before .before .before .before .before .pre .0) _ _ _ _ (c .before .before .before .before .before .before .before .if1 .taken) _ (c .try-lines .ensures .0), search needs)
+returns c = (patterns-body _ _ _ _ (c .before .before .before .before .before .before .before .before .before .before .before .before .before .before .before .before .before .before .before .before .pre .0) _ _ _ _ (c .before .before .before .before .before .before .before .if1 .taken) _ (c .try-lines .ensures .0), search needs)
 
 try-fields-requires : tie.Need-try-fields-requires
-try-fields-requires c κs = (c .before .before .before .before .before .before .before .before .before .before .before .before .before .before .before .before .before .before .before .before .pre .0, (c .before .before .before .before .before .before .before .before .before .before .before .before .before .before .before .before .before .before .before .before .pre .1, (ready-head _ _ _ _ _ (c .before .before .before .before .before .before .before .before .before .before .load .ensures .ready) (c .before .before .before .before .before .before .if1 .left), search needs)))
+try-fields-requires c κs = (c .before .before .before .before .before .before .before .before .before .before .before .before .before .before .before .before .before .before .pre .0, (c .before .before .before .before .before .before .before .before .before .before .before .before .before .before .before .before .before .before .pre .1, (ready-head _ _ _ _ _ (c .before .before .before .before .before .before .before .before .before .load .ensures .ready) (c .before .before .before .before .before .if1 .left), search needs)))
 
 same-length : tie.Need-same-length
 same-length c = search needs
-
-same-length-2 : tie.Need-same-length-2
-same-length-2 c = search needs
 
 returns-2 : tie.Need-returns-2
 returns-2 c = (search patterns-head, search needs)
@@ -55,5 +52,4 @@ try-patterns-spec =
     returns
     try-fields-requires
     same-length
-    same-length-2
     returns-2)

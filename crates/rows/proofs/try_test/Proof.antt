@@ -64,9 +64,6 @@ try-patterns-requires c κs = search needs
 same-length : tie.Need-same-length
 same-length c = search needs
 
-same-length-2 : tie.Need-same-length-2
-same-length-2 c = search needs
-
 returns-4 : tie.Need-returns-4
 returns-4 c = (search pattern-row, search needs)
 
@@ -94,5 +91,4 @@ try-test-spec =
     string-bytes-requires-2
     try-patterns-requires
     same-length
-    same-length-2
     returns-4)
