@@ -35,21 +35,24 @@ static size_t place_of(struct slice s, size_t from, uint8_t b) {
 
 /* ---- the head */
 
-static size_t head_end(struct slice s) {
-    for (size_t i = 0; i < s.length; i++)
-        if (s.at[i] == '\r' && byte_at(s, i + 1) == '\n' && byte_at(s, i + 2) == '\r' && byte_at(s, i + 3) == '\n') return i;
-    return s.length;
+static int empty_line_at(struct slice s, size_t i) {
+    return s.at[i] == '\r' && byte_at(s, i + 1) == '\n' && byte_at(s, i + 2) == '\r' && byte_at(s, i + 3) == '\n';
 }
 
-static int head_bytes_right(struct slice h) {
-    uint8_t before = 0;
-    for (size_t i = 0; i < h.length; i++) {
-        uint8_t b = h.at[i];
-        if (b < 32 ? b != '\t' && b != '\n' && b != '\r' : b == 127) return 0;
-        if ((before == '\r') != (b == '\n')) return 0;
-        before = b;
+/* Where the head ends, if all its bytes may stand there; else the length. */
+static size_t head_end(struct slice s) {
+    for (size_t i = 0; i < s.length; i++) {
+        uint8_t b = s.at[i];
+        if (b >= 32) {
+            if (b == 127) return s.length;
+        } else if (b == '\r' && byte_at(s, i + 1) == '\n') {
+            if (empty_line_at(s, i)) return i;
+            i++;
+        } else if (b != '\t') {
+            return s.length;
+        }
     }
-    return before != '\r';
+    return s.length;
 }
 
 static int is_word(int uri, struct slice w) {
@@ -112,7 +115,6 @@ static int reads(struct slice s, uint16_t *starts, uint16_t *colons, size_t *fie
     size_t e = head_end(s);
     if (s.length <= e) return 0;
     struct slice h = part(s, 0, e);
-    if (!head_bytes_right(h)) return 0;
     size_t n = place_of(h, 0, '\r');
     if (white(byte_at(h, n + 2)) || !start_line(part(h, 0, n)) || !are_fields(h, n + 2)) return 0;
     *fields = fill(h, n + 2, starts, colons);

@@ -1,5 +1,5 @@
 -- What a request is that was judged readable: its parts by the places found.
-use mathlib.Core.Bool.{Bool, true, false, not, _&&_}
+use mathlib.Core.Bool.{Bool, true, false}
 use mathlib.Core.Option.{Option, none, some}
 use mathlib.Core.Path.{_≡_, refl, sym, ap, _∙_, subst}
 use mathlib.Core.List.{List, [], _∷_}
@@ -17,7 +17,7 @@ use Rattle.request.specs.Cutting.{begins}
 use Rattle.request.specs.Places.{head-of, part, first-line, later-lines, field-lines, fields-start}
 use Rattle.request.specs.Request.{Field, Request, Start, head-byte, paired, head-lines, whole-fields, start-line, all-fields, head, empty-line, read-request}
 use Rattle.request.specs.Searching.{first}
-use Rattle.request.specs.Steps.{parts-right, start-places, lines-from, judged}
+use Rattle.request.specs.Steps.{bytes-right, parts-right, start-places, lines-from, judged}
 use Rattle.request.specs.declared.Judged.{Judged}
 use Rattle.request.specs.declared.Judged.the-variants.{Refused, Accepted}
 use Rattle.request.specs.declared.StartLine.the-variants.{Bad}
@@ -221,14 +221,12 @@ accepts s e m u f q =
             | yes h ↦ absurd (not-so (judge-endless s short e₀ refl h))
             | no h ↦
                 let more : e₀ < length s = omega (arith, h) in
-                let front = take (e₀ - 0) (drop 0 s) in
-                let front-is : front ≡ take e₀ s = ap (λ (k : ℕ). take k s) (sub-zero e₀) in
-                let r = every head-byte front && paired 0 front in
+                let front : head-of s ≡ take e₀ s = head-is-front s short e₀ refl more in
                 let place : first (begins empty-line) s ≡ e₀ = sym (head-end s) in
                 let mark : begins empty-line (drop e₀ s) ≡ true = subst (λ (k : ℕ). begins empty-line (drop k s) ≡ true) place (first-holds (begins empty-line) s (omega (arith, place))) in
-                test-cases r
-                (λ y. accepted s e₀ short (omega (arith, begins-long empty-line (drop e₀ s) mark, length-drop e₀ s, more)) (head-is-front s short e₀ refl more)
-                (subst (λ (l : List ℕ). T (paired 0 l)) front-is (right (every head-byte front) (paired 0 front) (T-of y))) (read-by-test s short e₀ refl more r refl true y) e m u f q)
-                (λ n. absurd (not-so (judge-bytes s short e₀ refl more r refl (ap not n))))
+                test-cases (bytes-right (head-of s))
+                (λ y. accepted s e₀ short (omega (arith, begins-long empty-line (drop e₀ s) mark, length-drop e₀ s, more)) front
+                (subst (λ (l : List ℕ). T (paired 0 l)) front (right (every head-byte (head-of s)) (paired 0 (head-of s)) (T-of y))) (read-by-test s short e₀ refl more true y) e m u f q)
+                (λ n. absurd (not-so (judge-bytes s short e₀ refl more n)))
           ]
     ]

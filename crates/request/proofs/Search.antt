@@ -20,6 +20,7 @@ use Rattle.request.specs.Cutting.{Cut, begins, first-cut}
 use Rattle.request.specs.Places.{before-cut, head-of}
 use Rattle.request.specs.Request.{empty-line}
 use Rattle.request.specs.Searching.{first, line-break}
+use Rattle.request.specs.Steps.{control-size}
 
 module _ (p : List ℕ → Bool) where
   pub first-no : (b : ℕ) (s : List ℕ) → p (b ∷ s) ≡ false → first p (b ∷ s) ≡ suc (first p s)
@@ -111,6 +112,25 @@ module _ (s : List ℕ) (i a : ℕ) (ea : a ≡ getD s i 0) where
 
         pub empty-yes : d ≡ 10 → true ≡ begins empty-line (drop i s)
         empty-yes h = sym (empty-line-is s i ∙ rw (at-a, at-b, at-c, ← ed′, eq-eqb 10 d (sym h)))
+
+-- what one byte below 32 and the next are to a head
+module _ (s : List ℕ) (i : ℕ) where
+  control-size-is : control-size (drop i s) ≡ pick (eqb 9 (getD s i 0) && true) 1 (pick (eqb 13 (getD s i 0) && (eqb 10 (getD s (i + 1) 0) && true)) 2 0)
+  control-size-is = rw (begins-at 9 [] s i refl, begins-at 13 (10 ∷ []) s i refl, begins-at 10 [] s (i + 1) refl)
+
+  pub size-tab : getD s i 0 ≡ 9 → 1 ≡ control-size (drop i s)
+  size-tab e = sym (control-size-is ∙ rw e)
+
+  module _ (n : getD s i 0 ≡ 9 → ⊥) where
+    pub size-other : (getD s i 0 ≡ 13 → ⊥) → 0 ≡ control-size (drop i s)
+    size-other m = sym (control-size-is ∙ rw (ne-eqb 9 (getD s i 0) (λ e. n (sym e)), ne-eqb 13 (getD s i 0) (λ e. m (sym e))))
+
+    module _ (cr : getD s i 0 ≡ 13) (b : ℕ) (eb : b ≡ getD s (i + 1) 0) where
+      pub size-lone : (b ≡ 10 → ⊥) → 0 ≡ control-size (drop i s)
+      size-lone m = sym (control-size-is ∙ rw (cr, ← eb, ne-eqb 10 b (λ e. m (sym e))))
+
+      pub size-pair : b ≡ 10 → 2 ≡ control-size (drop i s)
+      size-pair lf = sym (control-size-is ∙ rw (cr, ← eb, lf))
 
 -- the end of a field's line
 module _ (h : List ℕ) (i : ℕ) where
@@ -218,7 +238,22 @@ module _ (mark : List ℕ) where
         | no h ↦ ap (λ (o : Option Cut). length (before-cut s o)) (cut-found s (omega (arith, h))) ∙ length-take-le k s k-le
       ]
 
--- the end of the head
+-- ---- the head
+
+-- where it ends
 pub head-end : (s : List ℕ) → length (head-of s) ≡ first (begins empty-line) s
 unfolding head-of
 head-end s = before-length empty-line s
+
+before-pushed : (b : ℕ) (s : List ℕ) (o : Option Cut) → before-cut (b ∷ s) (pushed empty-line b o) ≡ b ∷ before-cut s o
+before-pushed b s none = refl
+before-pushed b s (some c) = refl
+
+-- its first byte
+pub head-byte-on : (b : ℕ) (s : List ℕ) → begins empty-line (b ∷ s) ≡ false → head-of (b ∷ s) ≡ b ∷ head-of s
+unfolding head-of
+head-byte-on b s e = ap (before-cut (b ∷ s)) (cut-no empty-line b s e) ∙ before-pushed b s (first-cut empty-line s)
+
+pub head-none : (b : ℕ) (s : List ℕ) → begins empty-line (b ∷ s) ≡ true → head-of (b ∷ s) ≡ []
+unfolding head-of
+head-none b s e = ap (before-cut (b ∷ s)) (cut-yes empty-line b s e)

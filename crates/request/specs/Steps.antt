@@ -2,23 +2,43 @@
 use mathlib.Core.Bool.{Bool, true, false, not, _&&_}
 use mathlib.Core.Option.{Option, none, some}
 use mathlib.Core.Path.{_≡_}
-use mathlib.Core.List.{List, [], _++_}
+use mathlib.Core.List.{List, [], _∷_, _++_}
 use Prim.Native.Nat.{ℕ, _+_, _*_, _≤_, _<_}
 use lib.ListN.{length, drop}
-use lib.Dec.{T, leb}
+use lib.Dec.{T, leb, ltb}
 use Rattle.octets.specs.Bytes.{same-any-case, token, uri-byte}
 use Rattle.octets.specs.Lists.{text, pick, every, empty}
 use Rattle.request.specs.Body.{drop-cr}
-use Rattle.request.specs.Cutting.{cut-by}
-use Rattle.request.specs.Places.{fields-start, line-starts, line-colons}
-use Rattle.request.specs.Request.{paired, head-lines, Start, whole-fields, field, Request}
+use Rattle.request.specs.Cutting.{begins, cut-by}
+use Rattle.request.specs.Places.{head-of, fields-start, line-starts, line-colons}
+use Rattle.request.specs.Request.{head-byte, paired, head-lines, Start, whole-fields, field, Request}
 use Rattle.request.specs.Values.{Mode, plain, quoted, escaped, angle}
+use Rattle.request.specs.declared.HeadPlace.{HeadPlace}
+use Rattle.request.specs.declared.HeadPlace.the-variants.{Wrong, Ends}
 use Rattle.request.specs.declared.Judged.{Judged}
 use Rattle.request.specs.declared.Judged.the-variants.{Refused, Accepted}
 use Rattle.request.specs.declared.StartLine.{StartLine}
 use Rattle.request.specs.declared.StartLine.the-variants.{Bad, Good}
 use Rattle.request.specs.declared.Within.{Within}
 use Rattle.request.specs.declared.Within.the-variants.{Text, Quotes, Escape, Angles}
+
+-- ---- the head
+
+-- how many bytes of a head start here with one below 32: HTAB, or CR LF; 0 for any other, which is refused
+abbrev pub control-size : List ℕ → ℕ
+control-size s = pick (begins (9 ∷ []) s) 1 (pick (begins (13 ∷ 10 ∷ []) s) 2 0)
+
+-- the bytes of a head are right: each may stand in one, CR and LF only as pairs
+abbrev pub bytes-right : List ℕ → Bool
+bytes-right h = every head-byte h && paired 0 h
+
+-- an empty line ends the head, and its bytes are right
+abbrev pub ends-right : List ℕ → Bool
+ends-right s = ltb (length (head-of s)) (length s) && bytes-right (head-of s)
+
+-- where it ends then
+abbrev pub head-place : List ℕ → HeadPlace
+head-place s = pick (ends-right s) (Ends (length (head-of s))) Wrong
 
 -- ---- the start line
 

@@ -9,9 +9,9 @@ ghost use Rattle.octets.specs.Bytes.{white, Classes};
 ghost use Rattle.octets.specs.Lists.{every, empty, pick};
 ghost use Rattle.request.specs.Cutting.{begins};
 ghost use Rattle.request.specs.Places.{head-of, part, over, Room, Read, field-parts, Indexed, piece-at, body-line};
-ghost use Rattle.request.specs.Request.{empty-line, head-byte, paired, head-lines, start-line, name-as-matched, head, read-request};
+ghost use Rattle.request.specs.Request.{empty-line, paired, head-lines, start-line, name-as-matched, head, read-request};
 ghost use Rattle.request.specs.Searching.{first, span, line-break, text-here, word-byte, space};
-ghost use Rattle.request.specs.Steps.{parts-right, start-places, is-field, lines-from, judged, Fillable, Filled, mode-of, ended-line};
+ghost use Rattle.request.specs.Steps.{control-size, head-place, parts-right, start-places, is-field, lines-from, judged, Fillable, Filled, mode-of, ended-line};
 ghost use Rattle.request.specs.Values.{plain, step, cuts, trim-right, reduced, never-cut};
 
 // ---- the head
@@ -36,19 +36,56 @@ fn empty_line_at(s: &[u8], i: usize) -> bool
     true
 }
 
-// The place of the first CR LF CR LF, or the length where there is none.
-fn head_end(s: &[u8]) -> usize
-    ensures { λ r. ⌜ r ≡ length (head-of (now (s .entry))) ⌝ }
+// How many bytes of a head start with the one below 32 at i: HTAB, or CR LF; 0 for any other, which is refused.
+fn control_size(s: &[u8], i: usize) -> usize
+    requires { ⌜ i < length (now s) ⌝ }
+    ensures { λ r. ⌜ r ≡ control-size (drop i (now (s .entry))) ⌝ }
+{
+    let b = s[i];
+    if b == 9 {
+        return 1;
+    }
+    if b != 13 {
+        return 0;
+    }
+    if octets::byte_at(s, i + 1) != 10 {
+        return 0;
+    }
+    2
+}
+
+// Where the head ends, if an empty line ends it and its bytes are right.
+enum HeadPlace {
+    Wrong,
+    Ends { at: usize },
+}
+
+fn head_place(s: &[u8]) -> HeadPlace
+    ensures { λ r. ⌜ r ≡ head-place (now (s .entry)) ⌝ }
 {
     let mut i: usize = 0;
     while i < s.len() {
-        if empty_line_at(s, i) {
-            return i;
+        let b = s[i];
+        if b < 32 {
+            if empty_line_at(s, i) {
+                return HeadPlace::Ends { at: i };
+            }
+            let k = control_size(s, i);
+            if k == 0 {
+                return HeadPlace::Wrong;
+            }
+            i += k;
+        } else {
+            if b == 127 {
+                return HeadPlace::Wrong;
+            }
+            i += 1;
         }
-        i += 1;
     }
-    i
+    HeadPlace::Wrong
 }
+
+// ---- the start line
 
 // The place of the first byte b from a place on, or the length where there is none.
 fn place_of(s: &[u8], from: usize, b: u8) -> usize
@@ -65,38 +102,6 @@ fn place_of(s: &[u8], from: usize, b: u8) -> usize
     }
     i
 }
-
-// A byte that may stand in the head: HTAB, CR, LF, and 32 and up but 127.
-fn head_byte_is(b: u8) -> bool
-    ensures { λ r. ⌜ r ≡ head-byte b ⌝ }
-{
-    if b < 32 {
-        return (b == 9) | (b == 10) | (b == 13);
-    }
-    b != 127
-}
-
-// Whether a head has only bytes that may stand there, CR and LF only as pairs.
-fn head_bytes_right(h: &[u8]) -> bool
-    ensures { λ r. ⌜ r ≡ (every head-byte (now (h .entry)) && paired 0 (now (h .entry))) ⌝ }
-{
-    let mut before: u8 = 0;
-    let mut i: usize = 0;
-    while i < h.len() {
-        let b = h[i];
-        i += 1;
-        if !head_byte_is(b) {
-            return false;
-        }
-        if (before == 13) != (b == 10) {
-            return false;
-        }
-        before = b;
-    }
-    before != 13
-}
-
-// ---- the start line
 
 // A byte of a URI, or else of a token.
 fn word_byte_is(table: &[u8; 256], uri: bool, b: u8) -> bool
@@ -300,14 +305,10 @@ fn judge(s: &[u8]) -> Judged
     if 65535 < s.len() {
         return Judged::Refused;
     }
-    let e = head_end(s);
-    if s.len() <= e {
-        return Judged::Refused;
+    match head_place(s) {
+        HeadPlace::Wrong => Judged::Refused,
+        HeadPlace::Ends { at } => judge_lines(&s[0..at]),
     }
-    if !head_bytes_right(&s[0..e]) {
-        return Judged::Refused;
-    }
-    judge_lines(&s[0..e])
 }
 
 // Writes where each line from a place on starts, and where its colon stands, to the front of the lent places. All of them are fields. It
