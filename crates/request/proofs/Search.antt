@@ -1,5 +1,5 @@
 -- Laws of `first`: what a loop that looks at one place after the other keeps, over any test, and what a cut at a mark is.
-use mathlib.Core.Bool.{Bool, true, false, not, _&&_}
+use mathlib.Core.Bool.{Bool, true, false, not, _&&_, and-true}
 use mathlib.Core.Option.{Option, none, some}
 use mathlib.Core.Path.{_≡_, refl, sym, ap, _∙_}
 use mathlib.Core.List.{List, [], _∷_}
@@ -8,9 +8,9 @@ use native.Mathlib.Nat.{zero-add, suc-add, not-suc-le-zero}
 use native.Mathlib.Decide.{decLe}
 use native.Mathlib.Numerals.{add-one, add-one-le}
 use native.Mathlib.Omega.{arith}
-use lib.ListN.{length, getD, take, drop, drop-of-length-le}
+use lib.ListN.{length, getD, take, drop, drop-of-length-le, length-drop}
 use lib.Dec.{eqb}
-use lib.Seq.{drop-cons, getD-drop, length-take-le}
+use lib.Seq.{drop-cons, drop-drop, getD-drop, length-take-le}
 use borrow.Author.Tests.{eq-eqb, ne-eqb}
 use Rattle.octets.specs.Bytes.{white}
 use Rattle.octets.specs.Lists.{pick}
@@ -62,6 +62,27 @@ module _ (p : List ℕ → Bool) where
   unfolding first
   first-le [] = zero-le
   first-le (b ∷ s) = first-le-by b s (first-le s) (p (b ∷ s)) refl
+
+-- a test that holds only where another does: its search may go from one place of that to the next
+module _ (p q : List ℕ → Bool) (only-there : (s : List ℕ) → q s ≡ false → p s ≡ false) where
+  skip-by : (b : ℕ) (s : List ℕ) → first p s ≡ first q s + first p (drop (first q s) s) → (t : Bool) → q (b ∷ s) ≡ t
+      → first p (b ∷ s) ≡ first q (b ∷ s) + first p (drop (first q (b ∷ s)) (b ∷ s))
+  skip-by b s h true e = rw (first-yes q b s e, zero-add)
+  skip-by b s h false e = rw (first-no q b s e, first-no p b s (only-there (b ∷ s) e), suc-add) (ap suc h)
+
+  first-skip : (s : List ℕ) → first p s ≡ first q s + first p (drop (first q s) s)
+  unfolding first
+  first-skip [] = refl
+  first-skip (b ∷ s) = skip-by b s (first-skip s) (q (b ∷ s)) refl
+
+  pub came-skip : (s : List ℕ) (t i j : ℕ) → Came p s t i → j ≡ i + first q (drop i s) → Came p s t j
+  came-skip s t i j k e =
+      let on : drop (first q (drop i s)) (drop i s) ≡ drop j s = drop-drop (first q (drop i s)) i s ∙ ap (λ (n : ℕ). drop n s) (sym e) in
+      let far : first p (drop i s) ≡ first q (drop i s) + first p (drop j s) = first-skip (drop i s) ∙ ap (λ (l : List ℕ). first q (drop i s) + first p l) on in
+      record {
+        inside = omega (arith, k .inside, e, first-le q (drop i s), length-drop i s);
+        same = omega (arith, k .same, e, far);
+      }
 
 -- ---- marks
 
@@ -153,6 +174,22 @@ module _ (h : List ℕ) (i : ℕ) where
 
       pub break-yes : r ≡ false → true ≡ line-break (drop i h)
       break-yes n = sym (pair-here ∙ ap not n)
+
+-- only where a CR stands
+break-at-cr : (s : List ℕ) → begins (13 ∷ []) s ≡ false → line-break s ≡ false
+break-at-cr [] e = refl
+break-at-cr (b ∷ s) e = rw (sym (and-true (eqb 13 b)) ∙ e)
+
+module _ (h : List ℕ) (from : ℕ) (inside : from ≤ length h) (k : ℕ) (ek : k ≡ from + first (begins (13 ∷ [])) (drop from h)) where
+  pub break-first : Came line-break h (from + first line-break (drop from h)) k
+  break-first = came-skip line-break (begins (13 ∷ [])) break-at-cr h _ from k (record { inside = inside; same = refl }) ek
+
+module _ (h : List ℕ) (t k : ℕ) (came : Came line-break h t k) (inside : k < length h) (r : Bool) (er : r ≡ line-break (drop k h)) where
+  pub break-found : r ≡ true → k ≡ t
+  break-found y = came-found line-break h t k came inside (sym er ∙ y)
+
+  pub break-next : r ≡ false → (j : ℕ) → j ≡ k + 1 + first (begins (13 ∷ [])) (drop (k + 1) h) → Came line-break h t j
+  break-next n j ej = came-skip line-break (begins (13 ∷ [])) break-at-cr h t (k + 1) j (came-next line-break h t k came inside (sym er ∙ n)) ej
 
 -- a search for one byte
 module _ (s : List ℕ) (b t i : ℕ) (k : Came (begins (b ∷ [])) s t i) (inside : i < length s) where

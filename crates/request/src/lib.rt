@@ -231,14 +231,14 @@ fn line_end(h: &[u8], from: usize) -> usize
     requires { ⌜ from ≤ length (now h) ⌝ }
     ensures { λ r. ⌜ r ≡ from + first line-break (drop from (now (h .entry))) ⌝ }
 {
-    let mut i = from;
-    while i < h.len() {
-        if line_break_at(h, i) {
-            return i;
+    let mut k = place_of(h, from, 13);
+    while k < h.len() {
+        if line_break_at(h, k) {
+            return k;
         }
-        i += 1;
+        k = place_of(h, k + 1, 13);
     }
-    i
+    k
 }
 
 // Whether every line from a place on is a field.
