@@ -83,8 +83,8 @@ static int is_field(struct slice l) {
 }
 
 static size_t line_end(struct slice h, size_t i) {
-    for (; i < h.length; i++)
-        if (h.at[i] == '\r' && byte_at(h, i + 1) == '\n' && !white(byte_at(h, i + 2))) return i;
+    for (i = place_of(h, i, '\r'); i < h.length; i = place_of(h, i + 1, '\r'))
+        if (byte_at(h, i + 1) == '\n' && !white(byte_at(h, i + 2))) return i;
     return i;
 }
 
