@@ -11,9 +11,9 @@ use Rattle.session.specs.declared.Reported.{Reported}
 use Rattle.session.specs.declared.Session.{Session}
 use Rattle.rows.specs.Tried.{given}
 use Rattle.route.specs.Advance.{Advances}
-use Rattle.route.specs.Listing.{Lists}
+use Rattle.listing.specs.Listing.{Lists}
 use Rattle.route.specs.declared.Advanced.{Advanced}
-use Rattle.route.specs.declared.Listed.{Listed}
+use Rattle.listing.specs.declared.Listed.{Listed}
 use Rattle.ifc.specs.Exports.{as-number, session-of, CheckTo, OpenTo, ReportTo, ServerTo, InformationTo, AdvanceTo, ListTo}
 
 pub passes-check : {image : List ℕ} {a : Checked} → Checks image a → CheckTo image (a .refusal) (a .place)

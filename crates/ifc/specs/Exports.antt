@@ -9,7 +9,7 @@ use Rattle.session.specs.Session.{open-session, report-session}
 use Rattle.session.specs.declared.Session.{Session}
 use Rattle.rows.specs.Tried.{given}
 use Rattle.route.specs.Advance.{advance}
-use Rattle.route.specs.Listing.{listing}
+use Rattle.listing.specs.Listing.{listing}
 
 -- yes is 1, no is 0
 abbrev pub as-number : Bool → ℕ

@@ -1,15 +1,15 @@
 // The calls as C makes them: numbers and bytes in, numbers out. Nothing but passing on.
 ghost use mathlib.Core.Path.{_≡_};
 ghost use Rattle.ifc.specs.Exports.{session-of, CheckTo, OpenTo, ReportTo, AdvanceTo, ListTo, ServerTo, InformationTo, as-number};
+use listing::Listed;
+use listing::list as list_into;
 use profile::Checked;
 use profile::Lookup;
 use profile::check;
 use profile::information;
 use profile::server;
 use route::Advanced;
-use route::Listed;
 use route::advance;
-use route::list as list_into;
 use session::Opened;
 use session::Reported;
 use session::Session;

@@ -18,7 +18,7 @@ use Rattle.session.specs.declared.Session.{Session}
 use Rattle.rows.specs.Rows.{Given, REGISTER, registration-fits, content-fits, field-fits, line-fits, test-fits, row-fits, content-trials, field-trials, line-trials, test-trials, row-trials}
 use Rattle.fitting.specs.Fitting.{memberships, fits-at, by-form, trigger-fits, criterion-fits, part-fits, trials-at, trials-from, criterion-trials}
 use Rattle.route.specs.Advance.{refuse, walk, walk-with, in-session, advance-read, advance-judged, advance}
-use Rattle.route.specs.Listing.{Listing, refuse-list, fill, fill-with, list-read, list-judged, listing}
+use Rattle.listing.specs.Listing.{Listing, refuse-list, fill, fill-with, list-read, list-judged, listing}
 use Rattle.route.specs.declared.Advanced.{Advanced}
 use Rattle.promises.specs.Agreement.{header-meets, describes, any-header, any-description, AgreeFields, none-left, field-and, Agree}
 use Rattle.promises.proofs.StartLine.{start-same}

@@ -18,10 +18,10 @@ use Rattle.session.specs.Session.{possible, ready, waiting, released, ended, wi
 use Rattle.session.specs.declared.Session.{Session}
 use Rattle.session.specs.declared.Reported.{Reported}
 use Rattle.rows.specs.Rows.{REGISTER}
-use Rattle.route.specs.Order.{Numbered, numbered, priority, above-last}
+use Rattle.order.specs.Order.{Numbered, numbered, priority, above-last}
 use Rattle.route.specs.Advance.{refuse, walk, advance-read, advance-judged, advance}
 use Rattle.route.specs.declared.Advanced.{Advanced}
-use Rattle.route.proofs.Chosen.{numbered-length}
+use Rattle.order.proofs.Chosen.{numbered-length}
 use Rattle.promises.specs.Walks.{Candidate, Answered, forwarding, routing, one-if, Move, ask, tell, forwards}
 use Rattle.promises.proofs.Next.{walk-answers}
 

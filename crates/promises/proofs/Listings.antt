@@ -14,10 +14,10 @@ use Rattle.profile.proofs.Accepted.{accepted-sound}
 use Rattle.request.specs.Request.{Request}
 use Rattle.rows.specs.Rows.{Given}
 use Rattle.fitting.specs.Fitting.{criterion-fits, criterion-trials}
-use Rattle.route.specs.Order.{Numbered, numbered, rising}
-use Rattle.route.specs.Listing.{Listing, numbers, listed, refuse-list, filled, fill, fill-with, list-read, list-judged, listing}
-use Rattle.route.proofs.Ordered.{numbers-length}
-use Rattle.route.proofs.Rising.{rising-strict, rising-has, rising-only, only-apart, numbered-apart}
+use Rattle.order.specs.Order.{Numbered, numbered, rising}
+use Rattle.listing.specs.Listing.{Listing, numbers, listed, refuse-list, filled, fill, fill-with, list-read, list-judged, listing}
+use Rattle.listing.proofs.Ordered.{numbers-length}
+use Rattle.order.proofs.Rising.{rising-strict, rising-has, rising-only, only-apart, numbered-apart}
 use Rattle.promises.specs.Walks.{Listable, ListsAll}
 
 module _ (g : Given) (image r before : List ℕ) (p : Profile) (q : Request) (h : Listable g image r before p q) where

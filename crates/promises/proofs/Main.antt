@@ -19,10 +19,11 @@ use Rattle.request.specs.Request.{Request}
 use Rattle.session.specs.Session.{possible, report-session}
 use Rattle.session.specs.declared.Session.{Session}
 use Rattle.rows.specs.Rows.{Given}
-use Rattle.route.specs.Order.{Numbered}
+use Rattle.order.specs.Order.{Numbered}
 use Rattle.route.specs.Advance.{advance}
-use Rattle.route.specs.Listing.{listing}
+use Rattle.listing.specs.Listing.{listing}
 use Rattle.route.proofs.Trials as trials
+use Rattle.listing.proofs.Trials as list-trials
 use Rattle.promises.specs.Agreement.{Agree}
 use Rattle.promises.specs.Calls.{Call, Store, run, AllRelated}
 use Rattle.promises.specs.Common as common
@@ -89,7 +90,7 @@ pub advance-trials : (x : Session) (image r : List ℕ) → advance x image r .t
 advance-trials = trials.advance-below
 
 pub listing-trials : (g : Given) (image r before : List ℕ) → listing g image r before .answer .trials < 2 ^ 32
-listing-trials = trials.listing-below
+listing-trials = list-trials.listing-below
 
 -- a pattern matches exactly if some part of the string fits it
 pub matches-iff-fits : (meet : Atom → ℕ → Bool) (p : Pattern) (s : List ℕ) → T (matches meet p s) ↔ Matches meet p s

@@ -17,10 +17,10 @@ use Rattle.request.specs.Request.{Request}
 use Rattle.session.specs.Session.{possible, ready}
 use Rattle.session.specs.declared.Session.{Session}
 use Rattle.fitting.specs.Fitting.{criterion-fits, criterion-trials}
-use Rattle.route.specs.Order.{Numbered, numbered, above-last, candidates, least, up-to}
+use Rattle.order.specs.Order.{Numbered, numbered, above-last, candidates, least, up-to}
 use Rattle.route.specs.Advance.{refuse, answer, walk, walk-with, in-session, advance-read, advance-judged, advance}
 use Rattle.route.specs.declared.Advanced.{Advanced}
-use Rattle.route.proofs.Chosen.{Right, least-right}
+use Rattle.order.proofs.Chosen.{Right, least-right}
 use Rattle.promises.specs.Walks.{Candidate, Answers, Answered, forwarding, routing}
 
 -- ---- advance

@@ -11,9 +11,9 @@ use Rattle.session.specs.declared.Opened.{Opened}
 use Rattle.session.specs.declared.Reported.{Reported}
 use Rattle.rows.specs.Rows.{Given}
 use Rattle.route.specs.Advance.{Advances}
-use Rattle.route.specs.Listing.{Lists}
+use Rattle.listing.specs.Listing.{Lists}
 use Rattle.route.specs.declared.Advanced.{Advanced}
-use Rattle.route.specs.declared.Listed.{Listed}
+use Rattle.listing.specs.declared.Listed.{Listed}
 
 pub one-check : {image : List ℕ} {a b : Checked} → Checks image a → Checks image b → a ≡ b
 one-check h k = h .answer ∙ sym (k .answer)

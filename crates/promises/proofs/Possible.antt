@@ -21,10 +21,10 @@ use Rattle.session.specs.declared.Opened.{Opened}
 use Rattle.session.specs.declared.Reported.{Reported}
 use Rattle.rows.specs.Rows.{REGISTER}
 use Rattle.fitting.specs.Fitting.{criterion-fits}
-use Rattle.route.specs.Order.{Numbered, numbered, priority, candidates, above-last, least}
+use Rattle.order.specs.Order.{Numbered, numbered, priority, candidates, above-last, least}
 use Rattle.route.specs.Advance.{refuse, answer, walk, walk-with, in-session, advance-read, advance-judged, advance}
 use Rattle.route.specs.declared.Advanced.{Advanced}
-use Rattle.route.proofs.Chosen.{Right, least-right, numbered-each}
+use Rattle.order.proofs.Chosen.{Right, least-right, numbered-each}
 use Rattle.promises.specs.Reached.{Bytes}
 
 -- a criterion's priority fits four bytes and its default is 0 or 1

@@ -21,9 +21,9 @@ use Rattle.session.specs.declared.Opened.{Opened}
 use Rattle.session.specs.declared.Reported.{Reported}
 use Rattle.rows.specs.Rows.{Given, REGISTER}
 use Rattle.fitting.specs.Fitting.{criterion-fits, criterion-trials}
-use Rattle.route.specs.Order.{Numbered, least, candidates}
+use Rattle.order.specs.Order.{Numbered, least, candidates}
 use Rattle.route.specs.Advance.{refuse, answer, walk, walk-with, in-session, advance-read, advance-judged, advance}
-use Rattle.route.specs.Listing.{Listing, listed, refuse-list, filled, fill, fill-with, list-read, list-judged, listing}
+use Rattle.listing.specs.Listing.{Listing, listed, refuse-list, filled, fill, fill-with, list-read, list-judged, listing}
 use Rattle.route.specs.declared.Advanced.{Advanced}
 use Rattle.promises.specs.Refusals.{Line, at-0, Refusal, no-refusal, First, none-holds, this-one, a-later-one, image-line, unreadable, is-register, too-many, missing, no-such, check-lines, open-lines, advance-lines, report-lines, listing-lines, lookup-lines}
 

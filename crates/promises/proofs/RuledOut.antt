@@ -9,7 +9,7 @@ use Rattle.session.specs.Session.{fresh, report-session}
 use Rattle.session.specs.declared.Session.{Session}
 use Rattle.rows.specs.Rows.{Given}
 use Rattle.route.specs.Advance.{advance, Advances}
-use Rattle.route.specs.Listing.{Listing, listing, Lists}
+use Rattle.listing.specs.Listing.{Listing, listing, Lists}
 use Rattle.route.specs.declared.Advanced.{Advanced}
 
 -- ---- libraries

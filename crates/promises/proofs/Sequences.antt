@@ -1,7 +1,7 @@
 -- Demand 3 over any sequence of calls, each with its own image, over a store of sessions.
 use mathlib.Core.Path.{_≡_, refl, ap, _∙_}
 use mathlib.Core.List.{List, _∷_}
-use Rattle.route.specs.Listing.{Listing}
+use Rattle.listing.specs.Listing.{Listing}
 use Rattle.route.specs.declared.Advanced.{Advanced}
 use Rattle.promises.specs.Calls.{Call, advanced, listed, Store, put, Stepped, step, Ran, run, Related, equal, advances, lists, AllRelated, no-calls, call-and}
 use Rattle.promises.proofs.Alike.{advance-same, listing-same}

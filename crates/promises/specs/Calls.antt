@@ -12,7 +12,7 @@ use Rattle.session.specs.declared.Opened.{Opened}
 use Rattle.session.specs.declared.Reported.{Reported}
 use Rattle.rows.specs.Rows.{Given}
 use Rattle.route.specs.Advance.{advance}
-use Rattle.route.specs.Listing.{Listing, listing}
+use Rattle.listing.specs.Listing.{Listing, listing}
 use Rattle.route.specs.declared.Advanced.{Advanced}
 use Rattle.promises.specs.Agreement.{Agree}
 

@@ -15,7 +15,7 @@ use Rattle.session.specs.Session.{possible, ready, waiting}
 use Rattle.session.specs.declared.Session.{Session}
 use Rattle.rows.specs.Rows.{Given, REGISTER}
 use Rattle.fitting.specs.Fitting.{criterion-fits}
-use Rattle.route.specs.Listing.{Listing, listed}
+use Rattle.listing.specs.Listing.{Listing, listed}
 use Rattle.route.specs.declared.Advanced.{Advanced}
 
 -- a line of the table: whether it holds, its number, its place

@@ -14,9 +14,9 @@ use Rattle.session.specs.Session.{possible, ready, report-session}
 use Rattle.session.specs.declared.Session.{Session}
 use Rattle.rows.specs.Rows.{Given, REGISTER}
 use Rattle.fitting.specs.Fitting.{criterion-fits}
-use Rattle.route.specs.Order.{Numbered, numbered, priority, above-last}
+use Rattle.order.specs.Order.{Numbered, numbered, priority, above-last}
 use Rattle.route.specs.Advance.{in-session, advance}
-use Rattle.route.specs.Listing.{Listing, listed, numbers}
+use Rattle.listing.specs.Listing.{Listing, listed, numbers}
 use Rattle.route.specs.declared.Advanced.{Advanced}
 
 -- ---- one advance

@@ -1,14 +1,4 @@
 pub mod Advancing
-pub mod Chosen
-pub mod Filling
-pub mod Finding
-pub mod Listings
-pub mod Ordered
-pub mod Rising
-pub mod Scanning
-pub mod Standings
-pub mod Sums
-pub mod Tallying
 pub mod Trials
 pub mod WalkLoop
 pub mod Walking

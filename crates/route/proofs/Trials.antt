@@ -1,13 +1,13 @@
--- "It stays below 2^32": the trials of any answer, whatever the image, the request and the session.
-use mathlib.Core.Bool.{not, _&&_}
+-- "It stays below 2^32": the trials of any advance, whatever the image, the request and the session.
+use mathlib.Core.Bool.{_&&_}
 use mathlib.Core.Option.{Option, none, some}
 use mathlib.Core.Path.{_≡_, refl, sym, subst}
 use Prim.Native.Nat.{ℕ, _<_, _^_}
 use native.Mathlib.Omega.{arith}
 use mathlib.Core.List.{List}
 use lib.ListN.{length}
-use lib.Dec.{leb, eqb}
-use Rattle.octets.specs.Lists.{pick, total, same}
+use lib.Dec.{eqb}
+use Rattle.octets.specs.Lists.{total, same}
 use Rattle.octets.proofs.Tests.{either}
 use Rattle.octets.proofs.Options.{Ok}
 use Rattle.octets.proofs.Kept.{total-only}
@@ -21,16 +21,13 @@ use Rattle.session.specs.declared.Session.{Session}
 use Rattle.rows.specs.Rows.{Given, REGISTER}
 use Rattle.fitting.specs.Fitting.{criterion-fits, criterion-trials}
 use Rattle.fitting.proofs.Trials.{all-below}
-use Rattle.route.specs.Order.{Numbered, numbered, candidates, above-last, least, up-to}
+use Rattle.order.specs.Order.{Numbered, numbered, candidates, above-last, least, up-to}
 use Rattle.route.specs.Advance.{refuse, answer, walk, walk-with, in-session, advance-read, advance-judged, advance}
-use Rattle.route.specs.Listing.{Listing, listed, refuse-list, filled, fill, fill-with, list-read, list-judged, listing}
 use Rattle.route.specs.declared.Advanced.{Advanced}
-use Rattle.route.proofs.Chosen.{numbered-total, up-to-le}
+use Rattle.order.proofs.Chosen.{numbered-total, up-to-le}
 
 abbrev Below : ℕ → Type 0
 Below n = n < 2 ^ 32
-
--- ---- advance
 
 answer-trials : (x : Session) (o : Option Numbered) (e t : ℕ) → answer x o e t .trials ≡ t
 answer-trials x none e t = refl
@@ -66,33 +63,3 @@ unfolding advance
 advance-below x image r =
     either (λ (a : Advanced). Below (a .trials)) (possible x && eqb (x .state) ready) (advance-judged x (judge image) r) (refuse x 10 0)
     (judged-below x image r (judge image) refl) (omega arith)
-
--- ---- listing
-
-abbrev BelowL : Listing → Type 0
-BelowL l = Below (l .answer .trials)
-
-fill-below : (s : List ℕ) (g : Given) (p : Profile) (q : Request) (places : List ℕ) → Sound s p → Small q → BelowL (fill q g p places)
-unfolding fill fill-with
-fill-below s g p q places k h =
-    let l : List ℕ = listed (criterion-fits q g p) (p .criteria) in
-    either BelowL (leb (length l) (length places)) (filled l (length (p .criteria)) (total (criterion-trials q g p) (p .criteria)) places) (refuse-list places 12 0)
-    (all-below s p k q h g) (omega arith)
-
-list-read-below : (s : List ℕ) (g : Given) (p : Profile) (o : Option Request) (places : List ℕ) → Sound s p → Ok Small o → BelowL (list-read g p o places)
-list-read-below s g p none places k h = omega arith
-list-read-below s g p (some q) places k h =
-    let last : Listing = fill q g p places in
-    let nine : Listing = pick (not (leb (g .registration) 2)) (refuse-list places 9 0) last in
-    let eight : Listing = pick (not (leb (g .case) 3)) (refuse-list places 8 0) nine in
-    either BelowL (not (same (q .method) REGISTER)) (refuse-list places 11 0) eight (omega arith)
-    (either BelowL (not (leb (g .case) 3)) (refuse-list places 8 0) nine (omega arith)
-    (either BelowL (not (leb (g .registration) 2)) (refuse-list places 9 0) last (omega arith) (fill-below s g p q places k h)))
-
-pub listing-below : (g : Given) (image r places : List ℕ) → listing g image r places .answer .trials < 2 ^ 32
-unfolding listing
-listing-below g image r places = go (judge image) refl
-  where
-    go : (j : Judged) → judge image ≡ j → BelowL (list-judged g j r places)
-    go (accepted p) e = list-read-below image g p (read-request r) places (accepted-sound image p e) (request-small r)
-    go (refused n place) e = omega arith

@@ -14,7 +14,7 @@ use Rattle.session.specs.Session.{ready, waiting, finished, possible, with-stat
 use Rattle.session.specs.declared.Session.{Session}
 use Rattle.rows.specs.Rows.{Given, REGISTER}
 use Rattle.fitting.specs.Fitting.{criterion-fits, criterion-trials}
-use Rattle.route.specs.Order.{Numbered, priority, candidates, least, up-to}
+use Rattle.order.specs.Order.{Numbered, priority, candidates, least, up-to}
 use Rattle.route.specs.declared.Advanced.{Advanced}
 
 -- ---- the answers

@@ -1,5 +1,3 @@
 pub mod Advance
 pub mod Examples
-pub mod Listing
-pub mod Order
-pub mod Scan
+pub mod Walk

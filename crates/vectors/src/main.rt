@@ -184,7 +184,7 @@ fn report(n: [u32; 12]) -> [u32; 12] {
 }
 
 fn list(image: &[u8], request: &[u8], n: [u32; 12], into: &mut [u8]) -> [u32; 12] {
-    let a = route::list(image, request, n[0], n[1], into);
+    let a = listing::list(image, request, n[0], n[1], into);
     [
         n[0],
         n[1],

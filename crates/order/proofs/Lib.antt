@@ -1,0 +1,7 @@
+pub mod Chosen
+pub mod Finding
+pub mod Reading
+pub mod Rising
+pub mod Scanning
+pub mod Standings
+pub mod Sums
