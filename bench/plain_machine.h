@@ -1,6 +1,6 @@
-/* The algorithm of crates/pattern as one would write it in C: a position of a 64-bit mask for each element, its set of bytes and the
- * mask of what may come right before it; a scan from the end of the text that looks at candidate positions only. Nothing is proved.
- * In a header, so that both users compile it into their own code. */
+/* The algorithm of crates/pattern and crates/machine as one would write it in C: a position of a 64-bit mask for each element, its set
+ * of bytes and the mask of what may come right before it; a scan from the end of the text that looks at candidate positions only.
+ * Nothing is proved. In a header, so that both users compile it into their own code. */
 #ifndef PLAIN_MACHINE_H
 #define PLAIN_MACHINE_H
 #include <stddef.h>

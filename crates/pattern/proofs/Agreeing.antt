@@ -14,13 +14,12 @@ use Rattle.octets.specs.Bytes.{within}
 use Rattle.octets.specs.Lists.{pick}
 use Rattle.octets.proofs.Bits.{bit-zero}
 use Rattle.octets.proofs.Tests.{left, right}
+use Rattle.machine.specs.Machine.{Machine, Live, live-end, live-on, Starts, starts-none, starts-live, StartsAt, Leftmost, first-mask, last-mask, in-set, met, machine-of}
+use Rattle.machine.specs.declared.Shape.{Shape}
 use Rattle.pattern.specs.Answers.{meet-as}
-use Rattle.pattern.specs.Machine.{Machine, Live, live-end, live-on, Starts, starts-none, starts-live, StartsAt, Leftmost, first-mask, last-mask, met, machine-of}
 use Rattle.pattern.specs.Pattern.{Atom, Elem, meets}
 use Rattle.pattern.specs.Prepared.{atom-of, no-marks, marks, set-as, sets-of, befores, shape-by}
-use Rattle.pattern.specs.Sets.{in-set}
 use Rattle.pattern.specs.declared.edition1.Marks.{Marks}
-use Rattle.pattern.specs.declared.matcher.Shape.{Shape}
 use Rattle.pattern.proofs.Compiled.{met-at, compiled}
 use Rattle.pattern.proofs.Positions.{free, leads, ends, follows, frees, ends-bit, leads-bit, follows-bit, follows-past, at-bit, befores-length}
 use Rattle.pattern.proofs.Words.{in-words}

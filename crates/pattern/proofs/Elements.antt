@@ -13,6 +13,7 @@ use borrow.Author.Tests.{eqb-true, lt-leb}
 use Rattle.octets.specs.Lists.{pick, peek}
 use Rattle.octets.specs.Option.{_>>=_, holds}
 use Rattle.octets.proofs.Tests.{either}
+use Rattle.machine.proofs.Places.{drop-at, empty-at}
 use Rattle.pattern.specs.Answers.{was-read, is-pattern}
 use Rattle.pattern.specs.Pattern.{Atom, Elem, Pattern}
 use Rattle.pattern.specs.Places.{map-got, body-of, PieceAt}
@@ -21,7 +22,7 @@ use Rattle.pattern.specs.Drawn.{drawn}
 use Rattle.pattern.specs.declared.reader.Piece.{Piece}
 use Rattle.pattern.proofs.Atoms.{piece-found, piece-lost, map-none, map-some}
 use Rattle.pattern.proofs.Countdown.{body-next, body-none, body-fuel}
-use Rattle.pattern.proofs.Places.{drop-at, empty-at, peek-inside}
+use Rattle.pattern.proofs.Places.{peek-inside}
 
 -- ---- behind an atom and its `*`
 

@@ -13,6 +13,7 @@ use lib.Seq.{sets, sets-eq}
 use borrow.Author.Tests.{leb-true, not-true, not-false}
 use Rattle.octets.specs.Lists.{pick, peek}
 use Rattle.octets.specs.Option.{_>>=_, holds}
+use Rattle.machine.specs.declared.Shape.{Shape}
 use Rattle.pattern.specs.Answers.{was-read, is-pattern}
 use Rattle.pattern.specs.Pattern.{Atom, Elem, Pattern}
 use Rattle.pattern.specs.Places.{map-got, body-of, PieceAt}
@@ -21,7 +22,6 @@ use Rattle.pattern.specs.Reading.{atom, elem, Body, read-pattern}
 use Rattle.pattern.specs.Drawn.{drawn}
 use Rattle.pattern.specs.declared.edition1.Marks.{Marks}
 use Rattle.pattern.specs.declared.reader.Piece.{Piece}
-use Rattle.pattern.specs.declared.matcher.Shape.{Shape}
 use Rattle.pattern.proofs.Elements.{with-elem, Step, body-end, body-last, body-lost, body-more, start-of, finished, read-is, start-le, behind-le, count-empty}
 use Rattle.pattern.proofs.Positions.{at-bit, befores-length}
 

@@ -11,14 +11,14 @@ use borrow.Author.Tests.{leb-true, leb-false, lt-leb, ltb-true, ltb-false, eqb-t
 use Rattle.octets.specs.Lists.{pick}
 use Rattle.octets.proofs.Bits.{bit-zero}
 use Rattle.octets.proofs.Tests.{both, left, right, or-left, or-right, or-cases, T-of, not-T-of, is-true}
+use Rattle.machine.specs.Machine.{Starts, starts-none, starts-live, StartsAt, Leftmost, Found, machine-of}
+use Rattle.machine.specs.declared.Shape.{Shape}
 use Rattle.pattern.specs.Answers.{was-read, is-pattern, matches-as, read-matches, meets-text, outcome-of, outcome, meet-as, fits-from, smallest, first-of, first-fit}
-use Rattle.pattern.specs.Machine.{Starts, starts-none, starts-live, StartsAt, Leftmost, Found, machine-of}
 use Rattle.pattern.specs.Matching.{front, somewhere, matches, written-matches, name-matches}
 use Rattle.pattern.specs.Pattern.{Elem, Pattern}
 use Rattle.pattern.specs.Prepared.{no-shape, shape-of, sets-after, befores-after, Ready}
 use Rattle.pattern.specs.Reading.{read-pattern}
 use Rattle.pattern.specs.declared.Outcome.the-variants.{No, Yes, Refuse}
-use Rattle.pattern.specs.declared.matcher.Shape.{Shape}
 use Rattle.pattern.proofs.Agreeing.{Bytes, starts-at-agree, leftmost-agree, pattern-agrees}
 use Rattle.pattern.proofs.Compiled.{compiled, starts-front, front-starts}
 

@@ -10,6 +10,7 @@ use lib.ListN.{length, getD, drop, replicate, drop-of-length-le}
 use borrow.Author.Tests.{ne-eqb, eq-eqb}
 use Rattle.octets.specs.Lists.{pick}
 use Rattle.octets.specs.Option.{_>>=_}
+use Rattle.machine.proofs.Places.{drop-at}
 use Rattle.pattern.specs.Pattern.{Range, list}
 use Rattle.pattern.specs.Places.{map-got, items-of, ItemAt, PieceAt}
 use Rattle.pattern.specs.Reading.{Read, read, item}
@@ -17,7 +18,6 @@ use Rattle.pattern.specs.Drawn.{drawn}
 use Rattle.pattern.specs.declared.reader.Item.{Item}
 use Rattle.pattern.specs.declared.reader.Piece.{Piece}
 use Rattle.pattern.proofs.Countdown.{items-next, items-none}
-use Rattle.pattern.proofs.Places.{drop-at}
 use Rattle.pattern.proofs.Words.{no-words}
 
 -- ---- answers

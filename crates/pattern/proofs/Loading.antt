@@ -9,6 +9,7 @@ use lib.Dec.{eqb}
 use lib.ListN.{length, getD, drop, set, length-set}
 use borrow.Author.Tests.{le-leb, ne-eqb}
 use Rattle.octets.specs.Lists.{pick, peek}
+use Rattle.machine.specs.declared.Shape.{Shape}
 use Rattle.pattern.specs.Answers.{was-read, is-pattern}
 use Rattle.pattern.specs.Pattern.{Atom, Elem, Pattern}
 use Rattle.pattern.specs.Places.{map-got, PieceAt}
@@ -17,7 +18,6 @@ use Rattle.pattern.specs.Reading.{atom, read-pattern}
 use Rattle.pattern.specs.Drawn.{drawn}
 use Rattle.pattern.specs.declared.edition1.Marks.{Marks}
 use Rattle.pattern.specs.declared.reader.Piece.{Piece}
-use Rattle.pattern.specs.declared.matcher.Shape.{Shape}
 use Rattle.pattern.proofs.Elements.{start-of, Counted, count-start, count-last, count-lost, count-more, count-many, count-done}
 use Rattle.pattern.proofs.Positions.{at-bit}
 use Rattle.pattern.proofs.Filling.{Fills, fill-start, fill-end, fill-last, fill-more, prepare-refused, prepare-on, prepared-ready}

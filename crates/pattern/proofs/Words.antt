@@ -15,7 +15,8 @@ use Rattle.octets.specs.Bits.{bit, mask}
 use Rattle.octets.specs.Bytes.{within, lower, upper}
 use Rattle.octets.specs.Lists.{pick}
 use Rattle.octets.proofs.Bits.{bit-and, bit-or, bit-shr, bit-shl, bit-shl-low, bit-add, bit-xor, bit-mask, mask-lt, mask-of, shl-one}
-use Rattle.pattern.specs.Sets.{in-set, word, words}
+use Rattle.machine.specs.Machine.{in-set}
+use Rattle.pattern.specs.Sets.{word, words}
 
 -- ---- masks of 64 bits
 

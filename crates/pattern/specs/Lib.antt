@@ -1,7 +1,6 @@
 pub mod Answers
 pub mod Drawn
 pub mod Examples
-pub mod Machine
 pub mod Matching
 pub mod Pattern
 pub mod Places

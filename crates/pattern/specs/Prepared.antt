@@ -7,12 +7,12 @@ use Prim.Native.Nat.{ℕ, _+_, _^_}
 use lib.Bits.{bitOr}
 use lib.ListN.{length, drop}
 use Rattle.octets.specs.Lists.{pick}
+use Rattle.machine.specs.declared.Shape.{Shape}
 use Rattle.pattern.specs.Pattern.{Atom, Elem, once, star, Pattern}
 use Rattle.pattern.specs.Reading.{read-pattern}
 use Rattle.pattern.specs.Answers.{is-pattern, meet-as}
 use Rattle.pattern.specs.Sets.{words}
 use Rattle.pattern.specs.declared.edition1.Marks.{Marks}
-use Rattle.pattern.specs.declared.matcher.Shape.{Shape}
 
 abbrev pub starred : Elem → Bool
 starred (once a) = false

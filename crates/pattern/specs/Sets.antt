@@ -1,13 +1,8 @@
 -- "Each list element is a set of 256 bytes": four words of 64 bits.
 use mathlib.Core.Bool.{Bool}
 use mathlib.Core.List.{List, [], _∷_}
-use Prim.Native.Nat.{ℕ, _+_, _*_, _/_, _%_}
-use lib.ListN.{getD}
-use Rattle.octets.specs.Bits.{bit, mask}
-
--- whether the byte b is in the set: bit b % 64 of word b / 64
-unfoldable pub in-set : List ℕ → ℕ → Bool
-in-set set b = bit (getD set (b / 64) 0) (b % 64)
+use Prim.Native.Nat.{ℕ, _+_, _*_}
+use Rattle.octets.specs.Bits.{mask}
 
 -- the word i of the set of the bytes that pass the test
 abbrev pub word : (ℕ → Bool) → ℕ → ℕ

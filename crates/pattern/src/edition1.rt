@@ -11,13 +11,13 @@ ghost use Rattle.pattern.specs.Drawn.{drawn};
 ghost use Rattle.pattern.specs.Pattern.{Atom};
 ghost use Rattle.pattern.specs.Prepared.{no-marks, mark as marked, before-at, set-as, shape-by, no-shape, shape-of, Loaded};
 ghost use Rattle.pattern.specs.Reading.{read-pattern};
-use crate::matcher::Shape;
 use crate::reader::atom_at;
 use crate::reader::behind;
 use crate::reader::is_anchor;
 use crate::reader::peek_at;
 use crate::reader::start_at;
 use crate::sets::folded;
+use machine::Shape;
 
 // Of the elements before the position `at`: those that may come right before it, those that may come first, and whether all may
 // be left out.

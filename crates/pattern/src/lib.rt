@@ -6,20 +6,19 @@ ghost use Rattle.pattern.specs.Prepared.{Prepared, Ready};
 
 mod draw;
 mod edition1;
-mod matcher;
 mod reader;
 mod sets;
 
 pub use crate::edition1::is_loaded;
 pub use crate::edition1::load;
 use crate::edition1::no_shape;
-pub use crate::matcher::Shape;
-use crate::matcher::found;
-use crate::matcher::leftmost;
 use crate::reader::atom_at;
 use crate::reader::behind;
 use crate::reader::is_anchor;
 use crate::reader::start_at;
+use machine::Shape;
+use machine::found;
+use machine::leftmost;
 
 // Whether a string is a pattern. It is read once, and no set is made.
 pub fn is_pattern(s: &[u8]) -> bool

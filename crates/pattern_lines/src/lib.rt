@@ -5,7 +5,7 @@ ghost use lib.ListN.{length, drop};
 ghost use Rattle.octets.specs.Lists.{pick};
 ghost use Rattle.pattern.specs.Prepared.{Ready};
 ghost use Rattle.pattern_lines.specs.Lines.{LinesTo, matched, before-lf};
-use pattern::Shape;
+use machine::Shape;
 use pattern::is_loaded;
 use pattern::load;
 use pattern::test;

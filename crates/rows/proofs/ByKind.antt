@@ -11,9 +11,9 @@ use lib.ListN.{length, take, drop, length-drop}
 use lib.Seq.{take-all}
 use borrow.Author.Tests.{eqb-false, eq-eqb, ne-eqb}
 use Rattle.octets.specs.Lists.{pick, same}
+use Rattle.machine.specs.declared.Shape.{Shape}
 use Rattle.pattern.specs.Prepared.{Ready}
 use Rattle.pattern.specs.Reading.{read-pattern}
-use Rattle.pattern.specs.declared.matcher.Shape.{Shape}
 use Rattle.profile.specs.Decoded.{string-of, or-empty, pattern-of, or-absent, test-from, row-from}
 use Rattle.profile.specs.Image.{Stored, Test, request-uri, method, header, session-case, description}
 use Rattle.profile.specs.Places.{rowAt}

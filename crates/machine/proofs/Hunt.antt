@@ -1,0 +1,326 @@
+-- The scan of a test: it ends at the first part that it finds, and leaves out what cannot change the answer.
+use mathlib.Core.Path.{_≡_, refl, sym, ap, ap₂, _∙_, subst, subst⁻¹}
+use mathlib.Core.Bool.{Bool, true, false, not, _&&_, _||_, true≢false, and-false}
+use mathlib.Core.List.{List, [], _∷_}
+use Prim.Native.Nat.{ℕ, zero, suc, _+_, _-_, _^_, _<_, _≤_, zero-le}
+use native.Mathlib.Omega.{arith}
+use lib.Bits.{bitAnd, bitOr, and-zero-r}
+use lib.Count.{trailingZeros}
+use lib.Dec.{T, eqb, ltb}
+use lib.ListN.{length, getD, drop}
+use lib.Seq.{drop-length}
+use borrow.Author.Tests.{ltb-true, ltb-false, lt-ltb, eq-eqb, ne-eqb, eqb-true}
+use Rattle.octets.specs.Bits.{bit}
+use Rattle.octets.specs.Lists.{empty}
+use Rattle.octets.proofs.Bits.{bit-zero, bit-or, bit-drop, bit-nonzero, some-bit, lowest-set, lowest-drop}
+use Rattle.octets.proofs.Tests.{T-of, is-true, not-T-of, both, left, right, or-right, or-cases}
+use Rattle.machine.specs.Machine.{Machine, Live, live-end, live-on, Starts, starts-none, starts-live, StartsAt, Found, first-mask, last-mask, null-at, null-somewhere, in-set, met, machine-of, Stepped, Only, Shut, LastMet}
+use Rattle.machine.specs.declared.Shape.{Shape}
+use Rattle.machine.proofs.Places.{drop-at, empty-at}
+use Rattle.machine.proofs.Scan.{Scan, dead, found-hit, found-miss, found-end, found-first-miss, found-none, tested}
+
+-- ---- a mask with one position
+
+pub only-none : (mask : ℕ) → Only mask 60
+only-none mask h = absurd (omega arith)
+
+pub only-one : (mask p : ℕ) → mask < 2 ^ 64 → (mask ≡ 0 → ⊥) → bitAnd mask (mask - 1) ≡ 0 → p ≡ trailingZeros 64 mask → Only mask p
+only-one mask p h n z e l k t =
+    let set : bit mask p ≡ true = ap (bit mask) e ∙ lowest-set 64 mask h n in
+    let rest : (bit mask k && not (eqb k p)) ≡ false =
+    sym (bit-drop mask p k set) ∙ ap (λ (m : ℕ). bit m k) (sym (lowest-drop 64 mask p h n e) ∙ z) ∙ bit-zero k in
+    eqb-true k p (kept (eqb k p) (ap (λ (a : Bool). a && not (eqb k p)) (sym (is-true (bit mask k) t)) ∙ rest))
+  where
+    kept : (a : Bool) → not a ≡ false → a ≡ true
+    kept true q = refl
+    kept false q = absurd (true≢false q)
+
+or-none-left : (a b : ℕ) → bitOr a b ≡ 0 → a ≡ 0
+or-none-left a b e = go (eqb a 0) refl
+  where
+    go : (t : Bool) → eqb a 0 ≡ t → a ≡ 0
+    go true q = eqb-true a 0 q
+    go false q =
+        let k = some-bit a (λ z. absurd (true≢false (sym (eq-eqb a 0 z) ∙ q))) in
+        absurd (bit-nonzero (bitOr a b) (k .0) (bit-or a b (k .0) ∙ ap (λ (t : Bool). t || bit b (k .0)) (k .1)) e)
+
+or-none-right : (a b : ℕ) → bitOr a b ≡ 0 → b ≡ 0
+or-none-right a b e = sym (ap (λ (n : ℕ). bitOr n b) (or-none-left a b e)) ∙ e
+
+-- ---- the way down to a byte that a position meets
+
+module _ (set text : List ℕ) (from : ℕ) where
+  pub last-first : LastMet set text from from
+  last-first = record { within = omega arith; none = λ k l m. absurd (omega arith) }
+
+  pub last-down : (i : ℕ) → 0 < i → LastMet set text from i → (r : Bool) → r ≡ in-set set (getD text i 0) → r ≡ false → LastMet set text from (i - 1)
+  last-down i z s r e q =
+      let w : i ≤ from = s .within in
+      record { within = omega arith; none = λ k l m. at k l m (ltb i k) refl }
+    where
+      at : (k : ℕ) → i - 1 < k → k ≤ from → (t : Bool) → ltb i k ≡ t → in-set set (getD text k 0) ≡ false
+      at k l m true u = s .none k (ltb-true i k u) m
+      at k l m false u =
+          let v : k ≤ i = ltb-false i k u in
+          let same : k ≡ i = omega arith in
+          ap (λ (j : ℕ). in-set set (getD text j 0)) same ∙ sym e ∙ q
+
+  pub last-none : (i : ℕ) → i ≤ 0 → LastMet set text from i → LastMet set text from 0
+  last-none i z s = let e : i ≡ 0 = omega arith in subst (λ (n : ℕ). LastMet set text from n) e s
+
+pub not-shut : (h : Shape) (sets : List (List ℕ)) (b : ℕ) → false ≡ true → Shut h sets b
+not-shut h sets b e = absurd (true≢false (sym e))
+
+-- the bytes above i are read, no part begins there, and these are the candidates for the byte at i
+pub record Hunt (h : Shape) (sets : List (List ℕ)) (before text : List ℕ) (candidates i : ℕ) : Type 0 where
+  pub next : ℕ
+  pub inside : i < length text
+  pub scan : Scan h sets before text (i + 1) next (length text + 1)
+  pub known : candidates ≡ bitOr next (last-mask h (eqb (i + 1) (length text)))
+  pub bare : null-somewhere h (length text) ≡ false
+
+module _ (h : Shape) (sets : List (List ℕ)) (before : List ℕ) where
+  abbrev M : Machine
+  M = machine-of h sets before
+
+  -- ---- a text that no part can begin
+
+  pub shut-start : (b live next : ℕ) → h .inner ≡ 0 → Stepped sets before (h .size) (h .start) b 0 live next → eqb live 0 ≡ true → Shut h sets b
+  shut-start b live next i w q =
+      record {
+        not-inner = i;
+        not-start = λ p t m. not-T-of (sym (bits p) ∙ ap (λ (n : ℕ). bit n p) (eqb-true live 0 q) ∙ bit-zero p) (both (bit (h .start) p && true) (met (h .size) sets b p) (both (bit (h .start) p) true t tt) m);
+      }
+    where
+      bits : (p : ℕ) → bit live p ≡ ((bit (h .start) p && true) && met (h .size) sets b p)
+      bits p = w .kept p ∙ ap (λ (t : Bool). bit (h .start) p && not t && met (h .size) sets b p) (bit-zero p)
+
+  -- ---- where no position that may end a part meets the byte, nothing gets live
+
+  idle : (b : ℕ) → ((k : ℕ) → T (bit (h .stops) k) → met (h .size) sets b k ≡ false) → Stepped sets before (h .size) (bitOr 0 (h .stops)) b 0 0 0
+  idle b unmet =
+      record {
+        kept = λ k. bit-zero k ∙ sym (none-at k (bit (h .stops) k) refl);
+        back = λ p t. absurd (not-T-of (bit-zero p) t);
+        forth = λ p q t u. absurd (not-T-of (bit-zero q) t);
+      }
+    where
+      none-at : (k : ℕ) (t : Bool) → bit (h .stops) k ≡ t → (bit (bitOr 0 (h .stops)) k && not (bit 0 k) && met (h .size) sets b k) ≡ false
+      none-at k true e = ap₂ (λ (a : Bool) (m : Bool). a && not (bit 0 k) && m) e (unmet k (T-of e)) ∙ and-no (not (bit 0 k))
+        where
+          and-no : (a : Bool) → (true && a && false) ≡ false
+          and-no true = refl
+          and-no false = refl
+      none-at k false e = ap (λ (a : Bool). a && not (bit 0 k) && met (h .size) sets b k) e
+
+  module _ (text : List ℕ) where
+    -- ---- the empty part
+
+    pub found-empty : length text ≡ 0 → Found M text (h .whole)
+    found-empty z = go (h .whole) refl
+      where
+        tested-is : tested h sets before text (length text) true 0 ≡ h .whole
+        tested-is =
+            ap₂ _||_ (ap (λ (a : Bool). null-at h a true) (eq-eqb (length text) 0 z)) (ap (λ (n : ℕ). not (eqb n 0)) (and-zero-r (first-mask h (eqb (length text) 0))))
+            ∙ or-no (h .whole)
+          where
+            or-no : (a : Bool) → (a || false) ≡ a
+            or-no true = refl
+            or-no false = refl
+
+        go : (t : Bool) → h .whole ≡ t → Found M text t
+        go true e = found-end h sets before text (tested h sets before text (length text) true 0) refl (tested-is ∙ e)
+        go false e = found-none h sets before text (length text) 0 (omega arith) (found-first-miss h sets before text (tested h sets before text (length text) true 0) refl (tested-is ∙ e))
+
+    found-yes : (j : ℕ) → j ≤ length text → StartsAt M text j → Found M text true
+    found-yes j l s = record { yes = λ e. (j, l, s); no = λ e. absurd (true≢false e) }
+
+    module _ (some : length text ≡ 0 → ⊥) where
+      null-here : (j : ℕ) (a e : Bool) → j ≤ length text → eqb j 0 ≡ a → eqb j (length text) ≡ e → T (null-at h a e) → Found M text true
+      null-here j a e l p q t =
+          found-yes j l (starts-none (subst⁻¹ (λ (x : Bool). T (null-at h (eqb j 0) x)) (empty-at text j l ∙ q) (subst⁻¹ (λ (x : Bool). T (null-at h x e)) p t)))
+
+      pub found-null : (r : Bool) → r ≡ null-somewhere h (length text) → r ≡ true → Found M text true
+      found-null r e q =
+          or-cases (h .head || h .tail) (h .middle && ltb 1 (length text)) (T-of (sym e ∙ q))
+          (λ t. or-cases (h .head) (h .tail) t
+          (λ u. null-here 0 true false (omega arith) refl (ne-eqb 0 (length text) (λ z. some (sym z))) u)
+          (λ u. null-here (length text) false true (omega arith) (ne-eqb (length text) 0 some) (eq-eqb (length text) (length text) refl) u))
+          (λ t. let l : 1 < length text = ltb-true 1 (length text) (is-true (ltb 1 (length text)) (right (h .middle) (ltb 1 (length text)) t)) in
+          null-here 1 false false (omega arith) refl (ne-eqb 1 (length text) (λ z. omega arith)) (left (h .middle) (ltb 1 (length text)) t))
+
+      module _ (none : null-somewhere h (length text) ≡ false) where
+        no-null : (a : Bool) (j : ℕ) → eqb j 0 ≡ a → j < length text → null-at h a false ≡ false
+        no-null true j e l = not-either (h .head) (h .tail) (not-either (h .head || h .tail) (h .middle && ltb 1 (length text)) none)
+          where
+            not-either : (a b : Bool) → (a || b) ≡ false → a ≡ false
+            not-either true b q = q
+            not-either false b q = refl
+        no-null false j e l =
+            let z : j ≡ 0 → ⊥ = λ q. absurd (true≢false (sym (eq-eqb j 0 q) ∙ e)) in
+            let two : 1 < length text = omega arith in
+            and-left (h .middle) (ltb 1 (length text)) (lt-ltb 1 (length text) two) (not-second (h .head || h .tail) (h .middle && ltb 1 (length text)) none)
+          where
+            not-second : (a b : Bool) → (a || b) ≡ false → b ≡ false
+            not-second true b q = absurd (true≢false q)
+            not-second false b q = q
+
+            and-left : (a b : Bool) → b ≡ true → (a && b) ≡ false → a ≡ false
+            and-left true b p q = absurd (true≢false (sym p ∙ q))
+            and-left false b p q = refl
+
+        no-end : null-at h (eqb (length text) 0) true ≡ false
+        no-end =
+            ap (λ (a : Bool). null-at h a true) (ne-eqb (length text) 0 some)
+            ∙ tail-no (h .head) (h .tail) (h .middle && ltb 1 (length text)) none
+          where
+            tail-no : (a b d : Bool) → ((a || b) || d) ≡ false → b ≡ false
+            tail-no true b d q = absurd (true≢false q)
+            tail-no false true d q = absurd (true≢false q)
+            tail-no false false d q = refl
+
+        untested : (j live : ℕ) → j < length text → bitAnd (first-mask h (eqb j 0)) live ≡ 0 → tested h sets before text j false live ≡ false
+        untested j live l z = ap₂ _||_ (no-null (eqb j 0) j refl l) (ap (λ (n : ℕ). not (eqb n 0)) z)
+
+        -- ---- no part can begin
+
+        without : Shut h sets (getD text 0 0) → Found M text false
+        without s = record { yes = λ e. absurd (true≢false (sym e)); no = λ e. record { within = omega arith; before = λ j l m v. at j m (ltb j (length text)) refl v; found = λ l. absurd (omega arith) } }
+          where
+            first-byte : (p : ℕ) (l : List ℕ) → T (bit (h .start) p) → Live M p (getD text 0 0 ∷ l) → ⊥
+            first-byte p l t (live-end m z) = s .not-start p t m
+            first-byte p l t (live-on m f v) = s .not-start p t m
+
+            begun-at : (j : ℕ) → j < length text → (a : Bool) → eqb j 0 ≡ a → Starts M a (getD text j 0 ∷ drop (j + 1) text) → ⊥
+            begun-at j l a e (starts-none u) = not-T-of (no-null a j e l) u
+            begun-at j l true e (starts-live {p = p} f v) =
+                let z : j ≡ 0 = eqb-true j 0 e in
+                first-byte p (drop (j + 1) text) f (subst (λ (k : ℕ). Live M p (getD text k 0 ∷ drop (j + 1) text)) z v)
+            begun-at j l false e (starts-live {p = p} f v) = not-T-of (ap (λ (n : ℕ). bit n p) (s .not-inner) ∙ bit-zero p) f
+
+            begun-end : Starts M (eqb (length text) 0) [] → ⊥
+            begun-end (starts-none u) = not-T-of no-end u
+            begun-end (starts-live f v) = dead v
+
+            at : (j : ℕ) → j ≤ length text → (t : Bool) → ltb j (length text) ≡ t → StartsAt M text j → ⊥
+            at j m true u v =
+                let l : j < length text = ltb-true j (length text) u in
+                begun-at j l (eqb j 0) refl (subst (λ (x : List ℕ). Starts M (eqb j 0) x) (drop-at text j l) v)
+            at j m false u v =
+                let z : j ≡ length text = let l : length text ≤ j = ltb-false j (length text) u in omega arith in
+                begun-end (subst (λ (x : List ℕ). Starts M (eqb (length text) 0) x) (drop-length text) (subst (λ (k : ℕ). StartsAt M text k) z v))
+
+        -- ---- bytes at which nothing can get live
+
+        -- from i down to k, no position that may end a part meets a byte
+        abbrev Idle : ℕ → ℕ → Type 0
+        Idle k i = (j : ℕ) → k ≤ j → j < i → (q : ℕ) → T (bit (h .stops) q) → met (h .size) sets (getD text j 0) q ≡ false
+
+        -- the position `door` meets none of them, and no other may end a part
+        unmet : (door k i : ℕ) → ((q : ℕ) → T (bit (h .stops) q) → q ≡ door) → ((j : ℕ) → k ≤ j → j < i → in-set (getD sets door []) (getD text j 0) ≡ false) → Idle k i
+        unfolding met
+        unmet door k i one out j a b q t =
+            ap (λ (p : ℕ). ltb p (h .size) && in-set (getD sets p []) (getD text j 0)) (one q t) ∙ ap (λ (u : Bool). ltb door (h .size) && u) (out j a b) ∙ and-false (ltb door (h .size))
+
+        quiet : (i k n : ℕ) → k + n ≡ i → i < length text → Scan h sets before text i 0 (length text + 1) → Idle k i → Scan h sets before text k 0 (length text + 1)
+        quiet i k zero e l s out = let z : i ≡ k = omega arith in subst (λ (m : ℕ). Scan h sets before text m 0 (length text + 1)) z s
+        quiet i k (suc n) e l s out =
+            found-miss h sets before text (k + 1) k 0 (h .stops) 0 0 refl
+            (quiet i (k + 1) n (omega arith) l s (λ j a b. out j (omega arith) b))
+            (sym (ap (last-mask h) (ne-eqb (k + 1) (length text) (λ z. omega arith))))
+            (idle (getD text k 0) (out k (omega arith) (omega arith)))
+            (tested h sets before text k false 0) refl (untested k 0 (omega arith) (and-zero-r (first-mask h (eqb k 0))))
+
+    -- ---- the loop
+
+    module _ (some : length text ≡ 0 → ⊥) (r : Bool) (er : r ≡ null-somewhere h (length text)) (qr : r ≡ false) where
+      pub found-shut : Shut h sets (getD text 0 0) → Found M text false
+      found-shut s = without some (sym er ∙ qr) s
+
+      pub hunt-first : Hunt h sets before text (h .ends) (length text - 1)
+      hunt-first =
+          let e : length text ≡ length text - 1 + 1 = omega (arith, some) in
+          record {
+            next = 0;
+            inside = omega (arith, some);
+            scan = subst (λ (k : ℕ). Scan h sets before text k 0 (length text + 1)) e (found-first-miss h sets before text (tested h sets before text (length text) true 0) refl (ap₂ _||_ (no-end some (sym er ∙ qr)) (ap (λ (n : ℕ). not (eqb n 0)) (and-zero-r (first-mask h (eqb (length text) 0))))));
+            known = sym (ap (last-mask h) (eq-eqb (length text - 1 + 1) (length text) (sym e)));
+            bare = sym er ∙ qr;
+          }
+
+    -- the byte at i is read
+    module _ (candidates i : ℕ) (s : Hunt h sets before text candidates i) (live next : ℕ) (w : Stepped sets before (h .size) candidates (getD text i 0) 0 live next) where
+      some : length text ≡ 0 → ⊥
+      some z = let l : i < length text = s .inside in absurd (omega arith)
+
+      stepped : Stepped sets before (h .size) (bitOr (s .next) (last-mask h (eqb (i + 1) (length text)))) (getD text i 0) 0 live next
+      stepped = subst (λ (n : ℕ). Stepped sets before (h .size) n (getD text i 0) 0 live next) (s .known) w
+
+      begins-at : (bitAnd (first-mask h (eqb i 0)) live ≡ 0 → ⊥) → Found M text true
+      begins-at n =
+          found-hit h sets before text (i + 1) i (s .next) (last-mask h (eqb (i + 1) (length text))) live next refl (s .scan) refl stepped (tested h sets before text i false live) refl
+          (is-true (tested h sets before text i false live) (or-right (null-at h (eqb i 0) false) (not (eqb (bitAnd (first-mask h (eqb i 0)) live) 0)) (T-of (ap not (ne-eqb (bitAnd (first-mask h (eqb i 0)) live) 0 n)))))
+
+      read-on : bitAnd (first-mask h (eqb i 0)) live ≡ 0 → Scan h sets before text i next (length text + 1)
+      read-on z =
+          found-miss h sets before text (i + 1) i (s .next) (last-mask h (eqb (i + 1) (length text))) live next refl (s .scan) refl stepped (tested h sets before text i false live) refl (untested some (s .bare) i live (s .inside) z)
+
+      ends-here : i ≤ 0 → Found M text (not (eqb (bitAnd (h .start) live) 0))
+      ends-here z = go (eqb (bitAnd (h .start) live) 0) refl
+        where
+          at-start : first-mask h (eqb i 0) ≡ h .start
+          at-start = ap (first-mask h) (eq-eqb i 0 (omega arith))
+
+          go : (t : Bool) → eqb (bitAnd (h .start) live) 0 ≡ t → Found M text (not t)
+          go true e = found-none h sets before text i next z (read-on (ap (λ (m : ℕ). bitAnd m live) at-start ∙ eqb-true (bitAnd (h .start) live) 0 e))
+          go false e = begins-at (λ q. absurd (true≢false (sym (eq-eqb (bitAnd (h .start) live) 0 (sym (ap (λ (m : ℕ). bitAnd m live) at-start) ∙ q)) ∙ e)))
+
+      module _ (up : 0 < i) where
+        not-start : first-mask h (eqb i 0) ≡ h .inner
+        not-start = ap (first-mask h) (ne-eqb i 0 (λ z. omega arith))
+
+        pub hunt-hit : (bitAnd (h .inner) live ≡ 0 → ⊥) → Found M text true
+        hunt-hit n = begins-at (λ z. n (sym (ap (λ (m : ℕ). bitAnd m live) not-start) ∙ z))
+
+        module _ (z : bitAnd (h .inner) live ≡ 0) where
+          scan-here : Scan h sets before text i next (length text + 1)
+          scan-here = read-on (ap (λ (m : ℕ). bitAnd m live) not-start ∙ z)
+
+          pub hunt-next : Hunt h sets before text (bitOr next (h .stops)) (i - 1)
+          hunt-next =
+              let e : i ≡ i - 1 + 1 = omega arith in
+              let l : i < length text = s .inside in
+              record {
+                next = next;
+                inside = omega arith;
+                scan = subst (λ (k : ℕ). Scan h sets before text k next (length text + 1)) e scan-here;
+                known = ap (bitOr next) (sym (ap (last-mask h) (ne-eqb (i - 1 + 1) (length text) (λ q. omega arith))));
+                bare = s .bare;
+              }
+
+          -- nothing is live, and nothing further down will be
+          pub hunt-dead : bitOr next (h .stops) ≡ 0 → Found M text false
+          hunt-dead e =
+              found-none h sets before text 0 0 zero-le
+              (quiet some (s .bare) i 0 i (omega arith) (s .inside) (subst (λ (m : ℕ). Scan h sets before text i m (length text + 1)) (or-none-left next (h .stops) e) scan-here)
+              (λ j a b q t. absurd (not-T-of (ap (λ (m : ℕ). bit m q) (or-none-right next (h .stops) e) ∙ bit-zero q) t)))
+
+          -- nothing is live, and the one position that may end a part meets no byte above r
+          pub hunt-skip : next ≡ 0 → (door r : ℕ) → Only (h .stops) door → door < 60 → LastMet (getD sets door []) text (i - 1) r → Hunt h sets before text (bitOr next (h .stops)) r
+          hunt-skip e door r one d m =
+              let w : r ≤ i - 1 = m .within in
+              let l : i < length text = s .inside in
+              let low : r + 1 + (i - (r + 1)) ≡ i = omega arith in
+              record {
+                next = next;
+                inside = omega arith;
+                scan = subst⁻¹ (λ (n : ℕ). Scan h sets before text (r + 1) n (length text + 1)) e (quiet some (s .bare) i (r + 1) (i - (r + 1)) low l (subst (λ (n : ℕ). Scan h sets before text i n (length text + 1)) e scan-here) (unmet some (s .bare) door (r + 1) i (one d) (λ j a b. m .none j (omega arith) (omega arith))));
+                known = ap (bitOr next) (sym (ap (last-mask h) (ne-eqb (r + 1) (length text) (λ q. omega arith))));
+                bare = s .bare;
+              }
+
+    pub hunt-last : (candidates i : ℕ) → i ≤ 0 → Hunt h sets before text candidates i → (live next : ℕ) → Stepped sets before (h .size) candidates (getD text 0 0) 0 live next
+        → Found M text (not (eqb (bitAnd (h .start) live) 0))
+    hunt-last candidates i z s live next w =
+        let e : i ≡ 0 = omega arith in
+        ends-here candidates i s live next (subst⁻¹ (λ (k : ℕ). Stepped sets before (h .size) candidates (getD text k 0) 0 live next) e w) z

@@ -1,0 +1,5 @@
+pub mod Choosing
+pub mod Hunt
+pub mod Places
+pub mod Scan
+pub mod Stepping

@@ -1,0 +1,228 @@
+// The matcher: a machine of at most 60 positions, a bit for each. It knows no edition of patterns.
+ghost use mathlib.Core.Path.{_≡_};
+ghost use mathlib.Core.Bool.{true, not, _||_};
+ghost use mathlib.Core.List.{[]};
+ghost use Prim.Native.Nat.{_+_, _≤_, _<_};
+ghost use lib.Bits.{bitAnd};
+ghost use lib.Dec.{eqb};
+ghost use lib.ListN.{getD, length};
+ghost use Rattle.octets.specs.Lists.{pick};
+ghost use Rattle.machine.specs.Machine.{Stepped, Leftmost, Found, Only, Shut, LastMet, first-mask, last-mask, null-at, null-somewhere, in-set, machine-of};
+
+// Which positions may begin a part, at the text's start or elsewhere; which may end one, at the text's end or elsewhere; and
+// whether the empty part fits: as the whole text, at its start, at its end, or between.
+pub struct Shape {
+    pub size: usize,
+    pub start: u64,
+    pub inner: u64,
+    pub ends: u64,
+    pub stops: u64,
+    pub whole: bool,
+    pub head: bool,
+    pub tail: bool,
+    pub middle: bool,
+}
+
+// Positions that are live before a byte, and those that may stand before one of them.
+pub struct Front {
+    pub live: u64,
+    pub next: u64,
+}
+
+// Whether the set of position p has the byte b.
+fn has(sets: &[[u64; 4]; 60], p: usize, b: u8) -> bool
+    requires { ⌜ p < 60 ⌝ }
+    ensures { λ r. ⌜ r ≡ in-set (getD (now (sets .entry)) p []) b ⌝ }
+{
+    let w = (b / 64) as usize;
+    let k = b % 64;
+    (sets[p][w] >> k) & 1 == 1
+}
+
+// Of the candidates, the positions that meet the byte b. Only the candidates are looked at.
+fn step(sets: &[[u64; 4]; 60], before: &[u64; 60], size: usize, candidates: u64, b: u8) -> Front
+    requires { ⌜ size ≤ 60 ⌝ }
+    ensures { λ r. ⌜ Stepped (now (sets .entry)) (now (before .entry)) size candidates b 0 (r .live) (r .next) ⌝ }
+{
+    let mut left = candidates;
+    let mut live: u64 = 0;
+    let mut next: u64 = 0;
+    while left != 0 {
+        let p = u64::trailing_zeros(left) as usize;
+        left = left & (left - 1);
+        if p < size {
+            if has(sets, p, b) {
+                live = live | 1 << p;
+                next = next | before[p];
+            }
+        }
+    }
+    Front { live, next }
+}
+
+fn last_of(h: Shape, end: bool) -> u64
+    ensures { λ r. ⌜ r ≡ last-mask h end ⌝ }
+{
+    if end {
+        return h.ends;
+    }
+    h.stops
+}
+
+fn first_of(h: Shape, start: bool) -> u64
+    ensures { λ r. ⌜ r ≡ first-mask h start ⌝ }
+{
+    if start {
+        return h.start;
+    }
+    h.inner
+}
+
+// Whether the empty part fits.
+fn empty_fits(h: Shape, start: bool, end: bool) -> bool
+    ensures { λ r. ⌜ r ≡ null-at h start end ⌝ }
+{
+    if start {
+        if end {
+            return h.whole;
+        }
+        return h.head;
+    }
+    if end {
+        return h.tail;
+    }
+    h.middle
+}
+
+// Whether a part begins here.
+fn begins(h: Shape, start: bool, end: bool, live: u64) -> bool
+    ensures { λ r. ⌜ r ≡ (null-at h start end || not (eqb (bitAnd (first-mask h start) live) 0)) ⌝ }
+{
+    if empty_fits(h, start, end) {
+        return true;
+    }
+    first_of(h, start) & live != 0
+}
+
+// The text's end, where the empty part fits there, or one above it.
+fn end_place(h: Shape, n: usize) -> usize
+    requires { ⌜ n < 9223372036854775808 ⌝ }
+    ensures { λ r. ⌜ r ≡ pick (null-at h (eqb n 0) true || not (eqb (bitAnd (first-mask h (eqb n 0)) 0) 0)) n (n + 1) ⌝ }
+{
+    if begins(h, n == 0, true, 0) {
+        return n;
+    }
+    n + 1
+}
+
+// The smallest place at which a part of the text fits, or one above its length: a scan from the end, so that what is live before
+// a byte follows from what is live behind it, and the last place found is the smallest.
+pub fn leftmost(h: Shape, sets: &[[u64; 4]; 60], before: &[u64; 60], text: &[u8]) -> usize
+    requires { ⌜ h .size ≤ 60 ⌝ }
+    ensures { λ r. ⌜ Leftmost (machine-of h (now (sets .entry)) (now (before .entry))) (now (text .entry)) r ⌝ }
+{
+    let n = text.len();
+    let size = h.size;
+    let mut best = end_place(h, n);
+    let mut next: u64 = 0;
+    let mut i = n;
+    while 0 < i {
+        let stop = last_of(h, i == n);
+        i -= 1;
+        let f = step(sets, before, size, next | stop, text[i]);
+        next = f.next;
+        if begins(h, i == 0, false, f.live) {
+            best = i;
+        }
+    }
+    best
+}
+
+// ---- what a test need not look at
+
+// Whether the empty part fits somewhere in a text of n bytes that is not empty.
+fn empty_somewhere(h: Shape, n: usize) -> bool
+    ensures { λ r. ⌜ r ≡ null-somewhere h n ⌝ }
+{
+    h.head | h.tail | (h.middle & (1 < n))
+}
+
+// Whether a text that begins with the byte b has no part: one could begin at the text's start alone, and b is met by no position that
+// may begin it.
+fn shut(h: Shape, sets: &[[u64; 4]; 60], before: &[u64; 60], b: u8) -> bool
+    requires { ⌜ h .size ≤ 60 ⌝ }
+    ensures { λ r. ⌜ (r ≡ true → Shut h (now (sets .entry)) b) ⌝ }
+{
+    if h.inner != 0 {
+        return false;
+    }
+    let f = step(sets, before, h.size, h.start, b);
+    f.live == 0
+}
+
+// The only position of a mask; 60 if it has none or several.
+fn only(mask: u64) -> usize
+    ensures { λ r. ⌜ Only mask r ⌝ }
+{
+    if mask == 0 {
+        return 60;
+    }
+    if mask & (mask - 1) != 0 {
+        return 60;
+    }
+    u64::trailing_zeros(mask) as usize
+}
+
+// The last place up to a place, and above 0, where position p meets the byte; 0 if there is none.
+fn last_met(sets: &[[u64; 4]; 60], p: usize, text: &[u8], from: usize) -> usize
+    requires { ⌜ (p < 60) × (from < length (now text)) ⌝ }
+    ensures { λ r. ⌜ LastMet (getD (now (sets .entry)) p []) (now (text .entry)) from r ⌝ }
+{
+    let mut i = from;
+    while 0 < i {
+        if has(sets, p, text[i]) {
+            return i;
+        }
+        i -= 1;
+    }
+    0
+}
+
+// Whether some part of the text fits: the same scan, which ends at the first place that it finds, or where nothing can be live any more.
+// Where nothing is live and one position alone may end a part, it goes on at the next byte that this one meets.
+pub fn found(h: Shape, sets: &[[u64; 4]; 60], before: &[u64; 60], text: &[u8]) -> bool
+    requires { ⌜ h .size ≤ 60 ⌝ }
+    ensures { λ r. ⌜ Found (machine-of h (now (sets .entry)) (now (before .entry))) (now (text .entry)) r ⌝ }
+{
+    let n = text.len();
+    if n == 0 {
+        return h.whole;
+    }
+    if empty_somewhere(h, n) {
+        return true;
+    }
+    if shut(h, sets, before, text[0]) {
+        return false;
+    }
+    let door = only(h.stops);
+    let mut candidates = h.ends;
+    let mut i = n - 1;
+    while 0 < i {
+        let f = step(sets, before, h.size, candidates, text[i]);
+        if h.inner & f.live != 0 {
+            return true;
+        }
+        candidates = f.next | h.stops;
+        if candidates == 0 {
+            return false;
+        }
+        i -= 1;
+        if f.next == 0 {
+            if door < 60 {
+                i = last_met(sets, door, text, i);
+            }
+        }
+    }
+    let f = step(sets, before, h.size, candidates, text[0]);
+    h.start & f.live != 0
+}
