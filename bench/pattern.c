@@ -1,6 +1,7 @@
 /* Patterns on header names (fold) and header values: `pattern_lines` against plain C of the same algorithm and against the C
- * library's regexec on a pattern that was compiled before. The C library gets its lines cut beforehand. Contenders that count
- * differently stop the program. */
+ * library's regexec on a pattern that was compiled before. The C library gets its lines cut beforehand. Then the reading of patterns
+ * into places that are lent once: `lines_as_patterns` on a block of one pattern many times, with the empty text, against plain C and
+ * against regcomp. Contenders that count differently stop the program. */
 #include <regex.h>
 #include <stddef.h>
 #include <stdint.h>
@@ -11,8 +12,9 @@
 #include "plain_pattern.h"
 
 uint32_t pattern_lines(const uint8_t *pattern, size_t pattern_len, uint32_t fold, const uint8_t *block, size_t block_len, uint32_t *met);
+void lines_as_patterns(const uint8_t *block, size_t block_len, uint32_t fold, const uint8_t *text, size_t text_len, uint32_t *met);
 
-enum { MOST = 65536, COPIES = 40, ROUNDS = 9 };
+enum { MOST = 65536, COPIES = 40, READINGS = 200, ROUNDS = 25 };
 
 static const char *const names[] = {
     "Via", "From", "To", "Call-ID", "CSeq", "Contact", "Max-Forwards", "Route", "Record-Route", "P-Asserted-Identity",
@@ -79,8 +81,8 @@ static uint32_t plain(void) {
     return met;
 }
 
-static void compile(void) {
-    if (regcomp(&compiled, pattern, REG_NOSUB | (fold ? REG_ICASE : 0))) stop("regcomp refuses");
+static void compile(const char *from) {
+    if (regcomp(&compiled, from, REG_NOSUB | (fold ? REG_ICASE : 0))) stop("regcomp refuses");
 }
 
 static uint32_t library(void) {
@@ -89,12 +91,33 @@ static uint32_t library(void) {
     return met;
 }
 
-static uint32_t library_anew(void) {
-    compile();
-    uint32_t met = library();
-    regfree(&compiled);
+/* The same three on a block of patterns: each line is read, and tried on the empty text. */
+static uint32_t ours_reading(void) {
+    uint32_t met;
+    lines_as_patterns((const uint8_t *)block, length, fold, (const uint8_t *)"", 0, &met);
     return met;
 }
+
+static uint32_t plain_reading(void) {
+    uint32_t met;
+    plain_patterns((const uint8_t *)block, length, fold, (const uint8_t *)"", 0, &met);
+    return met;
+}
+
+static uint32_t library_reading(void) {
+    uint32_t met = 0;
+    for (uint32_t i = 0; i < count; i++) {
+        compile(lines[i]);
+        met += !regexec(&compiled, "", 0, NULL, 0);
+        regfree(&compiled);
+    }
+    return met;
+}
+
+struct contenders {
+    uint32_t (*ours)(void), (*plain)(void), (*library)(void);
+};
+static const struct contenders matchers = {ours, plain, library}, readers = {ours_reading, plain_reading, library_reading};
 
 /* ---- time */
 
@@ -111,11 +134,11 @@ struct times {
 };
 
 /* The best of some rounds, in which the contenders take turns. */
-static struct times measure(uint32_t (*third)(void), uint32_t times) {
+static struct times measure(const struct contenders *of, uint32_t times) {
     struct times best = {1e18, 1e18, 1e18};
-    if (ours() != plain() || ours() != third()) stop("the contenders count differently");
+    if (of->ours() != of->plain() || of->ours() != of->library()) stop("the contenders count differently");
     for (int i = 0; i < ROUNDS; i++) {
-        double o = once(ours, times), p = once(plain, times), l = once(third, times);
+        double o = once(of->ours, times), p = once(of->plain, times), l = once(of->library, times);
         if (o < best.ours) best.ours = o;
         if (p < best.plain) best.plain = p;
         if (l < best.library) best.library = l;
@@ -140,9 +163,9 @@ static void matching(const char *title, const char *const *texts, const char *co
     head(title, "met", "regexec");
     for (; *patterns; patterns++) {
         pattern = *patterns;
-        compile();
+        compile(pattern);
         snprintf(met, sizeof met, "%u/%u", ours() / COPIES, count / COPIES);
-        struct times t = measure(library, 4);
+        struct times t = measure(&matchers, 4);
         regfree(&compiled);
         row(pattern, met, t, count);
         all.ours += t.ours, all.plain += t.plain, all.library += t.library;
@@ -150,14 +173,14 @@ static void matching(const char *title, const char *const *texts, const char *co
     row("all", "", all, count);
 }
 
-static void preparing(const char *const *patterns, uint32_t folded) {
+static void reading(const char *const *patterns, uint32_t folded) {
     char size[16];
-    length = 0, count = 0, add("");
     fold = folded;
     for (; *patterns; patterns++) {
-        pattern = *patterns;
-        snprintf(size, sizeof size, "%u", (unsigned)strlen(pattern));
-        row(pattern, size, measure(library_anew, 1000), 1);
+        length = 0, count = 0;
+        for (int i = 0; i < READINGS; i++) add(*patterns);
+        snprintf(size, sizeof size, "%u", (unsigned)strlen(*patterns));
+        row(*patterns, size, measure(&readers, 8), count);
     }
 }
 
@@ -173,8 +196,8 @@ static void growing(void) {
     for (size_t n = 4096; n <= 65536; n *= 2) {
         length = n == 65536 ? 65535 : n, count = 1;
         memset(block, 'a', length), memset(cut, 'a', length), cut[length] = 0, lines[0] = cut;
-        compile();
-        struct times t = measure(library, 1);
+        compile(pattern);
+        struct times t = measure(&matchers, 1);
         regfree(&compiled);
         snprintf(size, sizeof size, "%u", (unsigned)length);
         row("", size, t, 1);
@@ -186,9 +209,9 @@ static void growing(void) {
 int main(void) {
     matching("names, ns a line", names, on_names, 1);
     matching("values, ns a line", values, on_values, 0);
-    head("prepare and one empty line", "bytes", "regcomp");
-    preparing(on_names, 1);
-    preparing(on_values, 0);
+    head("reading a pattern, ns", "bytes", "regcomp");
+    reading(on_names, 1);
+    reading(on_values, 0);
     growing();
     return 0;
 }

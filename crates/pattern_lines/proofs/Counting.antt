@@ -2,7 +2,7 @@
 use mathlib.Core.Bool.{Bool, true, false}
 use mathlib.Core.Path.{_≡_, refl, sym, ap, _∙_}
 use mathlib.Core.List.{List, [], _∷_}
-use Prim.Native.Nat.{ℕ, zero, suc, _+_, _-_, _≤_, _<_, zero-le, suc-le-suc}
+use Prim.Native.Nat.{ℕ, suc, _+_, _-_, _≤_, _<_, zero-le, suc-le-suc}
 use native.Mathlib.Nat.{zero-add, add-zero, add-assoc}
 use native.Mathlib.Numerals.{add-one, add-one-le}
 use native.Mathlib.Omega.{arith}
@@ -11,8 +11,7 @@ use lib.ListN.{length, getD, take, drop, length-drop, drop-of-length-le}
 use lib.Seq.{drop-cons, drop-drop}
 use borrow.Author.Tests.{eq-eqb, ne-eqb, leb-true, leb-false, le-leb, lt-leb}
 use Rattle.octets.specs.Lists.{pick, total}
-use Rattle.pattern.specs.Answers.{meets-text}
-use Rattle.pattern_lines.specs.Lines.{longer, lines, counts, matched, before-lf}
+use Rattle.pattern_lines.specs.Lines.{longer, lines, passing, before-lf}
 
 -- ---- to the end of a line
 
@@ -88,20 +87,24 @@ one-most j false e = omega arith
 pub line-inside : (block : List ℕ) (at end : ℕ) → at ≤ length block → end ≡ at + before-lf (drop at block) → end ≤ length block
 line-inside block at end h e = omega (arith, lf-le (drop at block), length-drop at block)
 
+-- a line counts 1 where it passes, else 0
+abbrev counts : (List ℕ → Bool) → List ℕ → ℕ
+counts f line = pick (f line) 1 0
+
 -- the lines before `at` are counted
-pub record Counting (fold : Bool) (p block : List ℕ) (at n : ℕ) : Type 0 where
+pub record Counting (f : List ℕ → Bool) (block : List ℕ) (at n : ℕ) : Type 0 where
   pub inside : at ≤ length block + 1
   pub few : n ≤ at
-  pub left : n + total (counts fold p) (after at block) ≡ matched fold p block
+  pub left : n + total (counts f) (after at block) ≡ passing f block
 
-module _ (fold : Bool) (p block : List ℕ) where
-  pub counting-first : Counting fold p block 0 0
-  unfolding matched
-  counting-first = record { inside = omega arith; few = omega arith; left = zero-add (total (counts fold p) (after 0 block)) ∙ ap (λ (t : Bool). total (counts fold p) (pick t (lines block) [])) (le-leb 0 (length block) zero-le) }
+module _ (f : List ℕ → Bool) (block : List ℕ) where
+  pub counting-first : Counting f block 0 0
+  unfolding passing
+  counting-first = record { inside = omega arith; few = omega arith; left = zero-add (total (counts f) (after 0 block)) ∙ ap (λ (t : Bool). total (counts f) (pick t (lines block) [])) (le-leb 0 (length block) zero-le) }
 
-  pub counting-end : (at n : ℕ) → Counting fold p block at n → length block < at → n ≡ matched fold p block
+  pub counting-end : (at n : ℕ) → Counting f block at n → length block < at → n ≡ passing f block
   counting-end at n w h =
-      sym (add-zero n) ∙ sym (ap (λ (t : Bool). n + total (counts fold p) (pick t (lines (drop at block)) [])) (lt-leb at (length block) h)) ∙ w .left
+      sym (add-zero n) ∙ sym (ap (λ (t : Bool). n + total (counts f) (pick t (lines (drop at block)) [])) (lt-leb at (length block) h)) ∙ w .left
 
   module _ (at end : ℕ) (h : at ≤ length block) (e : end ≡ at + before-lf (drop at block)) where
     line-order : at ≤ end
@@ -132,17 +135,17 @@ module _ (fold : Bool) (p block : List ℕ) where
         ∙ ap (λ (l : List (List ℕ)). take (before-lf (drop at block)) (drop at block) ∷ l) later
         ∙ ap (λ (k : ℕ). take k (drop at block) ∷ after (end + 1) block) z
 
-    module _ (m : Bool) (em : m ≡ meets-text fold p line) (j : ℕ) (ej : j ≡ pick m 1 0) where
-      counted : j ≡ counts fold p line
+    module _ (m : Bool) (em : m ≡ f line) (j : ℕ) (ej : j ≡ pick m 1 0) where
+      counted : j ≡ counts f line
       counted = ej ∙ ap (λ (t : Bool). pick t 1 0) em
 
-      pub counting-next : (n : ℕ) → Counting fold p block at n → Counting fold p block (end + 1) (n + j)
+      pub counting-next : (n : ℕ) → Counting f block at n → Counting f block (end + 1) (n + j)
       counting-next n w =
           record {
             inside = omega (arith, line-inside block at end h e);
             few = omega (arith, one-most j m ej, w .few, line-order);
             left =
-                ap (λ (k : ℕ). n + k + total (counts fold p) (after (end + 1) block)) counted
-                ∙ add-assoc n (counts fold p line) (total (counts fold p) (after (end + 1) block))
-                ∙ sym (ap (λ (l : List (List ℕ)). n + total (counts fold p) l) this) ∙ w .left;
+                ap (λ (k : ℕ). n + k + total (counts f) (after (end + 1) block)) counted
+                ∙ add-assoc n (counts f line) (total (counts f) (after (end + 1) block))
+                ∙ sym (ap (λ (l : List (List ℕ)). n + total (counts f) l) this) ∙ w .left;
           }

@@ -1,4 +1,4 @@
--- How many lines of a block a pattern matches: one call for tests and measures.
+-- How many lines of a block a pattern matches, and how many are patterns that match a text: two calls for tests and measures.
 use mathlib.Core.Bool.{Bool, not}
 use mathlib.Core.List.{List, [], _∷_}
 use mathlib.Core.Path.{_≡_}
@@ -17,14 +17,18 @@ unfoldable pub lines : List ℕ → List (List ℕ)
 lines [] = [] ∷ []
 lines (b ∷ s) = pick (eqb b 10) ([] ∷ lines s) (longer b (lines s))
 
--- a line counts 1 where the pattern matches it, else 0; fold: as on names
-abbrev pub counts : Bool → List ℕ → List ℕ → ℕ
-counts fold p line = pick (meets-text fold p line) 1 0
+-- how many lines of the block pass
+unfoldable pub passing : (List ℕ → Bool) → List ℕ → ℕ
+unfolding lines
+passing f block = total (λ line. pick (f line) 1 0) (lines block)
 
--- how many lines the pattern matches
-unfoldable pub matched : Bool → List ℕ → List ℕ → ℕ
-unfolding lines meets-text
-matched fold p block = total (counts fold p) (lines block)
+-- how many lines the pattern matches; fold: as on names
+abbrev pub matched : Bool → List ℕ → List ℕ → ℕ
+matched fold p block = passing (meets-text fold p) block
+
+-- how many lines are patterns that match the text; fold: it is a name
+abbrev pub matching : Bool → List ℕ → List ℕ → ℕ
+matching fold text block = passing (λ p. meets-text fold p text) block
 
 -- The answer: 5 and none met where the string is no pattern, else 0 and how many lines it matches, of which the lent number holds
 -- the low 32 bits. fold 0: as written; any other: as on names.

@@ -1,10 +1,13 @@
-// One call over a block of lines, so that tests and measures reach a prepared pattern from C.
+// Two calls over a block of lines, so that tests and measures reach prepared patterns from C.
 ghost use mathlib.Core.Path.{_≡_};
-ghost use Prim.Native.Nat.{_+_, _≤_};
+ghost use mathlib.Core.Bool.{not};
+ghost use Prim.Native.Nat.{_+_, _≤_, _%_};
+ghost use lib.Dec.{eqb};
 ghost use lib.ListN.{length, drop};
 ghost use Rattle.octets.specs.Lists.{pick};
+ghost use Rattle.pattern.specs.Answers.{meets-text};
 ghost use Rattle.pattern.specs.Prepared.{Ready};
-ghost use Rattle.pattern_lines.specs.Lines.{LinesTo, matched, before-lf};
+ghost use Rattle.pattern_lines.specs.Lines.{LinesTo, matched, matching, before-lf};
 use machine::Shape;
 use pattern::is_loaded;
 use pattern::load;
@@ -54,6 +57,44 @@ fn count(
     n
 }
 
+// Whether a string is a pattern that matches the text, read into the lent places.
+fn read_and_test(
+    p: &[u8],
+    fold: bool,
+    text: &[u8],
+    sets: &mut [[u64; 4]; 60],
+    before: &mut [u64; 60],
+) -> bool
+    requires { ⌜ (length (now sets) ≡ 60) × (length (now before) ≡ 60) ⌝ }
+    ensures { λ r. ⌜ r ≡ meets-text fold (now (p .entry)) (now (text .entry)) ⌝ }
+    ensures { λ r. ⌜ (length (now (sets .exit)) ≡ 60) × (length (now (before .exit)) ≡ 60) ⌝ }
+{
+    let h = load(p, fold, sets, before);
+    test(h, sets, before, p, fold, text)
+}
+
+// The lines that are patterns and match the text.
+fn count_patterns(
+    block: &[u8],
+    fold: bool,
+    text: &[u8],
+    sets: &mut [[u64; 4]; 60],
+    before: &mut [u64; 60],
+) -> usize
+    requires { ⌜ (length (now sets) ≡ 60) × (length (now before) ≡ 60) ⌝ }
+    ensures { λ r. ⌜ r ≡ matching fold (now (text .entry)) (now (block .entry)) ⌝ }
+{
+    let mut n: usize = 0;
+    let mut at: usize = 0;
+    while at <= block.len() {
+        let end = line_end(block, at);
+        let m = read_and_test(&block[at..end], fold, text, sets, before);
+        n += one_if(m);
+        at = end + 1;
+    }
+    n
+}
+
 // The pattern is read once for all lines.
 #[no_mangle]
 pub extern "C" fn pattern_lines(pattern: &[u8], fold: u32, block: &[u8], met: &mut u32) -> u32
@@ -70,4 +111,16 @@ pub extern "C" fn pattern_lines(pattern: &[u8], fold: u32, block: &[u8], met: &m
     let n = count(h, &sets, &before, pattern, fold != 0, block);
     *met = (n % 4294967296) as u32;
     0
+}
+
+// Each line of the block is read as a pattern, all of them into the same places.
+#[no_mangle]
+pub extern "C" fn lines_as_patterns(block: &[u8], fold: u32, text: &[u8], met: &mut u32)
+    ensures { λ r. ⌜ now (met .exit) ≡ matching (not (eqb fold 0)) (now (text .entry)) (now (block .entry)) % 4294967296 ⌝ }
+{
+    let none = [0u64; 4];
+    let mut sets = [none; 60];
+    let mut before = [0u64; 60];
+    let n = count_patterns(block, fold != 0, text, &mut sets, &mut before);
+    *met = (n % 4294967296) as u32;
 }

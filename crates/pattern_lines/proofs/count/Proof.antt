@@ -1,13 +1,14 @@
 use borrow.Author.Needs.{needs}
 use Prim.Native.Nat.{_+_, _-_}
 use lib.ListN.{length}
+use Rattle.pattern.specs.Answers.{meets-text}
 use Rattle.pattern_lines.proofs.Counting.{Counting, counting-first, counting-end, counting-next, one-most, line-inside}
 use native.Mathlib.Omega.{arith}
 use Rattle.pattern_lines.proofs.count.Statement.{statement}
 use Rattle.pattern_lines.proofs.count.Tie as tie
 
 abbrev Inv-loop : tie.InvT-loop
-Inv-loop h sets before p fold block n₀ at₀ n at = Counting fold p block at n
+Inv-loop h sets before p fold block n₀ at₀ n at = Counting (meets-text fold p) block at n
 
 abbrev μ-loop : tie.MeasureT-loop
 μ-loop h sets before p fold block n₀ at₀ n at = length block + 1 - at
