@@ -4,7 +4,7 @@ use mathlib.Core.List.{List}
 use mathlib.Core.Path.{_≡_}
 use Prim.Native.Nat.{ℕ}
 use Rattle.octets.specs.Lists.{pick}
-use Rattle.profile.specs.Lookups.{check, server, information}
+use Rattle.lookups.specs.Lookups.{check, server, information}
 use Rattle.session.specs.Session.{open-session, report-session}
 use Rattle.session.specs.declared.Session.{Session}
 use Rattle.rows.specs.Tried.{given}

@@ -1,32 +1,19 @@
--- A string as a part of the image: where it stands and how long it is.
-use mathlib.Core.Bool.{true}
-use mathlib.Core.Option.{some}
-use mathlib.Core.Path.{_≡_, sym, ap, ap₂, _∙_}
+-- A string by its place in the image.
+use mathlib.Core.Path.{_≡_, sym, ap, _∙_}
 use Prim.Native.Nat.{ℕ, _+_, _-_, _≤_, _<_}
-use native.Mathlib.Nat.{add-sub-cancel-left}
 use native.Mathlib.Omega.{arith}
 use mathlib.Core.List.{List, []}
-use lib.ListN.{length, take, drop, getD, length-map, length-take, length-drop, List·getD-eq-default}
+use lib.ListN.{length, take, getD, length-map, List·getD-eq-default}
 use lib.Seq.{length-take-le, getD-take}
 use Rattle.profile.specs.Image.{Stored}
 use Rattle.profile.specs.Places.{word, textAt}
 use Rattle.profile.specs.Decoded.{stored, stored-in, nothing, string-of}
-use Rattle.profile.specs.Lookups.{the-part, part-of}
 use Rattle.profile.specs.Answers.{Table}
-use Rattle.profile.specs.declared.Lookup.{Lookup}
 use Rattle.profile.proofs.Uses.{getD-map-in, inside-at}
 
--- where string i stands, and that it is there
-abbrev at-part : ℕ → ℕ → Lookup
-at-part start len = record { refusal = 0; place = 0; present = true; start = start; length = len }
-
 module _ (s : List ℕ) (n : ℕ) (table : List ℕ) (tb : Table s n table) where
-  taken : length (take n table) ≡ n
+  pub taken : length (take n table) ≡ n
   taken = length-take-le n table (omega (arith, tb .long, tb .count))
-
-  pub part-none : (i : ℕ) → n ≤ i → at-part 0 0 ≡ the-part (some (string-of (stored-in s n table) i))
-  part-none i h =
-      sym (ap (λ (x : Stored). the-part (some x)) (List·getD-eq-default (stored-in s n table) nothing {n = i} (omega (arith, length-map (take n table) (stored s), taken))))
 
   pub bytes-none : (i : ℕ) → n ≤ i → [] ≡ string-of (stored-in s n table) i .bytes
   bytes-none i h =
@@ -34,7 +21,7 @@ module _ (s : List ℕ) (n : ℕ) (table : List ℕ) (tb : Table s n table) wher
 
   module _ (i o : ℕ) (h : i < n) (eo : o ≡ getD table i 0) where
     -- string i, by its place
-    string-at : stored s o ≡ string-of (stored-in s n table) i
+    pub string-at : stored s o ≡ string-of (stored-in s n table) i
     string-at = ap (stored s) (eo ∙ sym (getD-take n table i 0 h)) ∙ sym (getD-map-in (stored s) (take n table) i 0 nothing (omega (arith, taken)))
 
     pub bytes-some : (r : List ℕ) → r ≡ textAt s o → r ≡ string-of (stored-in s n table) i .bytes
@@ -46,14 +33,3 @@ module _ (s : List ℕ) (n : ℕ) (table : List ℕ) (tb : Table s n table) wher
 
     pub part-room : o + 2 ≤ length s
     part-room = omega (arith, part-in)
-
-    whole-text : length (textAt s o) ≡ word s o
-    whole-text = simp (length-take, length-drop) (omega (arith, part-in))
-
-    pub part-some : (len : ℕ) → (len ≡ word s o) × (len < 65536) → at-part (o + 2) len ≡ the-part (some (string-of (stored-in s n table) i))
-    part-some len e =
-        ap (at-part (o + 2)) (e .0 ∙ sym whole-text) ∙ ap (λ (x : Stored). the-part (some x)) string-at
-
--- the bytes that are handed back
-pub part-is : (s : List ℕ) (l : Lookup) (a n : ℕ) → a ≡ l .start → n ≡ l .length → take (a + n - a) (drop a s) ≡ part-of s l
-part-is s l a n e f = rw (add-sub-cancel-left) (ap₂ (λ (x y : ℕ). take y (drop x s)) e f)

@@ -11,7 +11,6 @@ pub mod Many
 pub mod MemberLaws
 pub mod MemberLoop
 pub mod Opened
-pub mod Parts
 pub mod Placed
 pub mod Readers
 pub mod RowLaws

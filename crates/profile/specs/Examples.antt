@@ -1,5 +1,5 @@
 -- Worked images: document 01's two, and a fault at each place that can be got wrong. One list, one claim.
-use mathlib.Core.Bool.{Bool, true, false, not, _&&_}
+use mathlib.Core.Bool.{Bool, true, false, _&&_}
 use Prim.Native.Nat.{ℕ, zero, suc, _/_, _%_}
 use Prim.Native.String.{String}
 use mathlib.Core.List.{List, [], _∷_, _++_}
@@ -8,8 +8,6 @@ use lib.Dec.{T, eqb}
 use Rattle.octets.specs.Lists.{text, every}
 use Rattle.profile.specs.Image.{Judged, accepted, refused}
 use Rattle.profile.specs.Judging.{judge}
-use Rattle.profile.specs.Lookups.{server, information}
-use Rattle.profile.specs.declared.Lookup.{Lookup}
 
 -- ---- writing images
 
@@ -61,7 +59,7 @@ abbrev with-members : ℕ → List ℕ → List ℕ
 with-members n m = strings ++ two 2 ++ a-row ++ a-row ++ two n ++ m
 
 -- one row with its membership, and the criteria from 33 on
-abbrev with-criteria : ℕ → List ℕ → List ℕ
+abbrev pub with-criteria : ℕ → List ℕ → List ℕ
 with-criteria n c = with-row a-row ++ two 1 ++ membership 0 0 ++ two n ++ c
 
 -- groups 0 to n - 1 of row 0
@@ -76,13 +74,10 @@ zeros (suc n) = 0 ∷ zeros n
 
 -- ---- the list
 
--- accepted; a fault's number and place; a server's start and length; information's presence, start and length; no such criterion
+-- accepted; a fault's number and place
 pub data Example : Type 0 where
   is-accepted : List ℕ → Example
   fault-at : ℕ → ℕ → List ℕ → Example
-  serves : List ℕ → ℕ → ℕ → ℕ → Example
-  informs : List ℕ → ℕ → Bool → ℕ → ℕ → Example
-  no-such : List ℕ → ℕ → Example
 
 abbrev fine : Judged → Bool
 fine (accepted p) = true
@@ -92,20 +87,10 @@ abbrev faulty : Judged → ℕ → ℕ → Bool
 faulty (accepted p) n place = false
 faulty (refused m at) n place = eqb m n && eqb at place
 
-abbrev agrees : Bool → Bool → Bool
-agrees true b = b
-agrees false b = not b
-
-abbrev stands : Lookup → Bool → ℕ → ℕ → Bool
-stands l present start len = eqb (l .refusal) 0 && agrees present (l .present) && eqb (l .start) start && eqb (l .length) len
-
 unfoldable pub right : Example → Bool
-unfolding judge server information
+unfolding judge
 right (is-accepted s) = fine (judge s)
 right (fault-at n place s) = faulty (judge s) n place
-right (serves s i start len) = stands (server s i) true start len
-right (informs s i present start len) = stands (information s i) present start len
-right (no-such s i) = eqb (server s i .refusal) 13 && eqb (information s i .refusal) 13
 
 unfoldable pub examples : List Example
 examples =
@@ -161,11 +146,6 @@ examples =
     ∷ fault-at 2 51 (with-criteria 2 (criterion 5 2 0 0 0 0 ++ (0 ∷ 0 ∷ 0 ∷ [])))
     -- nothing follows
     ∷ fault-at 3 33 (with-criteria 0 (7 ∷ 7 ∷ []))
-    -- lookups: the part of the image; information that is absent, and present but empty
-    ∷ serves one-criterion 0 5 5
-    ∷ no-such one-criterion 1
-    ∷ informs one-criterion 0 false 0 0
-    ∷ informs (with-criteria 1 ((0 ∷ 0 ∷ 0 ∷ 5 ∷ 2 ∷ 2 ∷ []) ++ two 0 ++ two 0 ++ two 0 ++ (0 ∷ []) ++ two 2)) 0 true 11 0
     ∷ []
 
 -- every example is right

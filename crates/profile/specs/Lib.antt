@@ -4,7 +4,6 @@ pub mod Examples
 pub mod Image
 pub mod Judging
 pub mod Kept
-pub mod Lookups
 pub mod Out
 pub mod Places
 pub mod Reader

@@ -1,7 +1,7 @@
 // Judges a profile image: accepted, or refused with a number and a place.
 ghost use mathlib.Core.Path.{_≡_};
 ghost use mathlib.Core.List.{[]};
-ghost use Prim.Native.Nat.{ℕ, _+_, _≤_, _<_};
+ghost use Prim.Native.Nat.{_+_, _≤_, _<_};
 ghost use lib.ListN.{length, getD, replicate};
 ghost use Rattle.profile.specs.Places.{
   u8,
@@ -43,9 +43,7 @@ ghost use Rattle.profile.specs.Places.{
   judge,
 };
 ghost use Rattle.profile.specs.Image.{refused};
-ghost use mathlib.Core.Option.{some};
 ghost use Rattle.profile.specs.Kept.{kept, Judges};
-ghost use Rattle.profile.specs.Lookups.{no-part, the-part, part-of, server as server-of, information as information-of, Checks, Serves, Informs};
 ghost use Rattle.profile.specs.Decoded.{stored-in, string-of, laid-criteria, laid-members, laid-rows};
 ghost use Rattle.profile.specs.Answers.{fieldOut, pairOut, checkOut, passed, Tabled, Filled, LaidAs, Laid, Table, Counted, opening, fromCriteria, fromMembers, fromRows, judgedOut, refusalOf, Fit};
 
@@ -117,7 +115,7 @@ fn wide(b: u8) -> usize
     b as usize
 }
 
-fn wide16(w: u16) -> usize
+pub fn wide16(w: u16) -> usize
     ensures { λ r. ⌜ r ≡ w ⌝ }
 {
     w as usize
@@ -809,7 +807,7 @@ fn judge_image(s: &[u8], table: &mut [u16; 1024]) -> Judged
 // ---- the parts of an accepted image, by value
 
 // Two bytes of the image, as a number.
-fn number(s: &[u8], at: usize) -> usize
+pub fn number(s: &[u8], at: usize) -> usize
     requires { ⌜ at + 2 ≤ length (now s) ⌝ }
     ensures { λ r. ⌜ (r ≡ word (now (s .entry)) at) × (r < 65536) ⌝ }
 {
@@ -909,68 +907,6 @@ pub fn judge(s: &[u8]) -> Judgement
     }
 }
 
-// What the check of an image answers: the refusal number (0 if none) and its place.
-pub struct Checked {
-    pub refusal: u32,
-    pub place: u32,
-}
-
-// What a lookup answers: the refusal number (0 if none) and its place, whether the part is present, and where it stands in the image.
-pub struct Lookup {
-    pub refusal: u32,
-    pub place: u32,
-    pub present: bool,
-    pub start: u32,
-    pub length: u32,
-}
-
-pub fn check(image: &[u8]) -> Checked
-    ensures { λ r. ⌜ Checks (now (image .entry)) r ⌝ }
-{
-    let j = judge(image);
-    Checked {
-        refusal: j.refusal,
-        place: j.place,
-    }
-}
-
-fn no_part_with(refusal: u32, place: u32) -> Lookup
-    ensures { λ r. ⌜ r ≡ no-part refusal place ⌝ }
-{
-    Lookup {
-        refusal,
-        place,
-        present: false,
-        start: 0,
-        length: 0,
-    }
-}
-
-// String i as a part of the image; the empty one where there is none.
-fn stored_part(s: &[u8], table: &[u16; 1024], n: usize, i: usize) -> Lookup
-    requires { ⌜ Table (now s) n (now table) × (length (now s) ≤ 32768) ⌝ }
-    ensures { λ r. ⌜ r ≡ the-part (some (string-of (stored-in (now (s .entry)) n (now (table .entry))) i)) ⌝ }
-{
-    if n <= i {
-        return Lookup {
-            refusal: 0,
-            place: 0,
-            present: true,
-            start: 0,
-            length: 0,
-        };
-    }
-    let o = wide16(table[i]);
-    let n = number(s, o);
-    Lookup {
-        refusal: 0,
-        place: 0,
-        present: true,
-        start: (o + 2) as u32,
-        length: n as u32,
-    }
-}
-
 // The bytes of string i: a part of the image, no copy; none where there is no such string.
 pub fn string_bytes<'a, 'b>(s: &'a [u8], table: &'b [u16; 1024], n: usize, i: usize) -> &'a [u8]
     requires { ⌜ Table (now s) n (now table) ⌝ }
@@ -980,66 +916,4 @@ pub fn string_bytes<'a, 'b>(s: &'a [u8], table: &'b [u16; 1024], n: usize, i: us
         return &s[..0];
     }
     text(s, wide16(table[i]))
-}
-
-pub fn server(image: &[u8], criterion: u32) -> Lookup
-    ensures { λ r. ⌜ Serves (now (image .entry)) criterion r ⌝ }
-{
-    let j = judge(image);
-    if j.refusal != 0 {
-        return no_part_with(j.refusal, j.place);
-    }
-    let y = j.layout;
-    let i = criterion as usize;
-    if y.criterion_count <= i {
-        return no_part_with(13, 0);
-    }
-    let table = j.table;
-    let at = y.criteria + 15 * i;
-    stored_part(image, &table, y.strings, number(image, at + 10))
-}
-
-pub fn information(image: &[u8], criterion: u32) -> Lookup
-    ensures { λ r. ⌜ Informs (now (image .entry)) criterion r ⌝ }
-{
-    let j = judge(image);
-    if j.refusal != 0 {
-        return no_part_with(j.refusal, j.place);
-    }
-    let y = j.layout;
-    let i = criterion as usize;
-    if y.criterion_count <= i {
-        return no_part_with(13, 0);
-    }
-    let at = y.criteria + 15 * i;
-    let k = number(image, at + 13);
-    if k == 65535 {
-        return no_part_with(0, 0);
-    }
-    let table = j.table;
-    stored_part(image, &table, y.strings, k)
-}
-
-// A lookup's part of the image, no copy.
-fn part<'a>(image: &'a [u8], l: Lookup) -> &'a [u8]
-    requires { ⌜ l .start + l .length ≤ length (now image) ⌝ }
-    ensures { λ r. ⌜ now r ≡ part-of (now (image .entry)) l ⌝ }
-{
-    let a = l.start as usize;
-    let e = a + l.length as usize;
-    &image[a..e]
-}
-
-pub fn server_name(image: &[u8], criterion: u32) -> &[u8]
-    ensures { λ r. ⌜ now r ≡ part-of (now (image .entry)) (server-of (now (image .entry)) criterion) ⌝ }
-{
-    let l = server(image, criterion);
-    part(image, l)
-}
-
-pub fn service_information(image: &[u8], criterion: u32) -> &[u8]
-    ensures { λ r. ⌜ now r ≡ part-of (now (image .entry)) (information-of (now (image .entry)) criterion) ⌝ }
-{
-    let l = information(image, criterion);
-    part(image, l)
 }

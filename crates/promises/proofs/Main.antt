@@ -13,8 +13,8 @@ use Rattle.pattern.specs.Matching.{matches}
 use Rattle.pattern.proofs.Meaning.{matches-iff}
 use Rattle.profile.specs.Image.{Criterion, Profile, accepted}
 use Rattle.profile.specs.Judging.{judge}
-use Rattle.profile.specs.Lookups.{server, part-of}
-use Rattle.profile.proofs.Parts.{server-part}
+use Rattle.lookups.specs.Lookups.{server, part-of}
+use Rattle.lookups.proofs.Parts.{server-part}
 use Rattle.request.specs.Request.{Request}
 use Rattle.session.specs.Session.{possible, report-session}
 use Rattle.session.specs.declared.Session.{Session}

@@ -2,9 +2,9 @@
 use mathlib.Core.Path.{_≡_, sym, _∙_}
 use Prim.Native.Nat.{ℕ}
 use mathlib.Core.List.{List}
-use Rattle.profile.specs.Lookups.{Checks, Serves, Informs}
-use Rattle.profile.specs.declared.Checked.{Checked}
-use Rattle.profile.specs.declared.Lookup.{Lookup}
+use Rattle.lookups.specs.Lookups.{Checks, Serves, Informs}
+use Rattle.lookups.specs.declared.Checked.{Checked}
+use Rattle.lookups.specs.declared.Lookup.{Lookup}
 use Rattle.session.specs.Session.{Opens, Reports}
 use Rattle.session.specs.declared.Session.{Session}
 use Rattle.session.specs.declared.Opened.{Opened}

@@ -11,9 +11,9 @@ use Rattle.octets.specs.Lists.{pick, same, total}
 use Rattle.octets.proofs.Tests.{differ, is-false, T-of}
 use Rattle.profile.specs.Image.{Stored, Criterion, Profile, Judged, accepted, refused}
 use Rattle.profile.specs.Judging.{judge}
-use Rattle.profile.specs.Lookups.{checked, check, the-part, look-at, look-judged, its-server, its-information, server, information}
-use Rattle.profile.specs.declared.Checked.{Checked}
-use Rattle.profile.specs.declared.Lookup.{Lookup}
+use Rattle.lookups.specs.Lookups.{checked, check, the-part, look-at, look-judged, its-server, its-information, server, information}
+use Rattle.lookups.specs.declared.Checked.{Checked}
+use Rattle.lookups.specs.declared.Lookup.{Lookup}
 use Rattle.request.specs.Request.{Request, read-request}
 use Rattle.session.specs.Session.{possible, ready, waiting, fresh, unopened, open-session, stays, after-report, report-session}
 use Rattle.session.specs.declared.Session.{Session}

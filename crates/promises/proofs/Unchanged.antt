@@ -10,7 +10,7 @@ use Rattle.octets.specs.Lists.{pick, same, total}
 use Rattle.octets.proofs.Tests.{either}
 use Rattle.profile.specs.Image.{Stored, Criterion, Profile, Judged, accepted, refused}
 use Rattle.profile.specs.Judging.{judge}
-use Rattle.profile.specs.Lookups.{the-part, look-at, look-judged, its-server, its-information, server, information}
+use Rattle.lookups.specs.Lookups.{the-part, look-at, look-judged, its-server, its-information, server, information}
 use Rattle.request.specs.Request.{Request, read-request}
 use Rattle.session.specs.Session.{possible, ready, waiting, fresh, unopened, open-session, stays, goes, released, ended, after-report, report-session}
 use Rattle.session.specs.declared.Session.{Session}

@@ -3,9 +3,9 @@ use Prim.Native.Nat.{ℕ}
 use mathlib.Core.List.{List, [], _∷_}
 use lib.Dec.{eqb}
 use Rattle.octets.specs.Lists.{pick}
-use Rattle.profile.specs.Lookups.{check, server, information}
-use Rattle.profile.specs.declared.Checked.{Checked}
-use Rattle.profile.specs.declared.Lookup.{Lookup}
+use Rattle.lookups.specs.Lookups.{check, server, information}
+use Rattle.lookups.specs.declared.Checked.{Checked}
+use Rattle.lookups.specs.declared.Lookup.{Lookup}
 use Rattle.session.specs.Session.{open-session, report-session}
 use Rattle.session.specs.declared.Session.{Session}
 use Rattle.session.specs.declared.Opened.{Opened}

@@ -9,7 +9,7 @@ use lib.Dec.{T, leb, eqb}
 use Rattle.octets.specs.Lists.{same}
 use Rattle.profile.specs.Image.{Criterion, Judged, accepted, refused}
 use Rattle.profile.specs.Judging.{judge}
-use Rattle.profile.specs.declared.Lookup.{Lookup}
+use Rattle.lookups.specs.declared.Lookup.{Lookup}
 use Rattle.request.specs.Request.{Request, read-request}
 use Rattle.session.specs.Session.{possible, ready, waiting}
 use Rattle.session.specs.declared.Session.{Session}

@@ -112,7 +112,7 @@ fn case_at(s: &[u8], at: usize) -> Case {
 // ---- the calls: the numbers as they stand after each, and its refusal number last
 
 fn check(image: &[u8]) -> [u32; 12] {
-    let a = profile::check(image);
+    let a = lookups::check(image);
     [a.place, 0, 0, 0, 0, 0, 0, 0, 0, 0, 0, a.refusal]
 }
 
@@ -202,7 +202,7 @@ fn list(image: &[u8], request: &[u8], n: [u32; 12], into: &mut [u8]) -> [u32; 12
 }
 
 fn server(image: &[u8], n: [u32; 12]) -> [u32; 12] {
-    let a = profile::server(image, n[0]);
+    let a = lookups::server(image, n[0]);
     [
         n[0],
         a.place,
@@ -224,7 +224,7 @@ fn one_if(b: bool) -> u32 {
 }
 
 fn information(image: &[u8], n: [u32; 12]) -> [u32; 12] {
-    let a = profile::information(image, n[0]);
+    let a = lookups::information(image, n[0]);
     let present = one_if(a.present);
     [
         n[0],

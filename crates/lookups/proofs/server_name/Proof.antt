@@ -1,7 +1,7 @@
 use borrow.Author.Needs.{needs}
-use Rattle.profile.proofs.Opened.{server-in, server-bytes}
-use Rattle.profile.proofs.server_name.Statement.{statement}
-use Rattle.profile.proofs.server_name.Tie as tie
+use Rattle.lookups.proofs.Looking.{server-in, server-bytes}
+use Rattle.lookups.proofs.server_name.Statement.{statement}
+use Rattle.lookups.proofs.server_name.Tie as tie
 
 server-requires : tie.Need-server-requires
 server-requires c κs = search needs

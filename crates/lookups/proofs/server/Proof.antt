@@ -1,8 +1,9 @@
 use native.Mathlib.Omega.{arith}
 use borrow.Author.Needs.{needs}
-use Rattle.profile.proofs.Opened.{opened, table-of, criterion-inside, server-refused, server-past, server-there}
-use Rattle.profile.proofs.server.Statement.{statement}
-use Rattle.profile.proofs.server.Tie as tie
+use Rattle.profile.proofs.Opened.{opened, table-of, criterion-inside}
+use Rattle.lookups.proofs.Looking.{server-refused, server-past, server-there}
+use Rattle.lookups.proofs.server.Statement.{statement}
+use Rattle.lookups.proofs.server.Tie as tie
 
 judge-requires : tie.Need-judge-requires
 judge-requires c κs = search needs

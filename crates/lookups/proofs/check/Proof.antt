@@ -1,7 +1,7 @@
 use borrow.Author.Needs.{needs}
-use Rattle.profile.proofs.Opened.{checked-is}
-use Rattle.profile.proofs.check.Statement.{statement}
-use Rattle.profile.proofs.check.Tie as tie
+use Rattle.lookups.proofs.Looking.{checked-is}
+use Rattle.lookups.proofs.check.Statement.{statement}
+use Rattle.lookups.proofs.check.Tie as tie
 
 judge-requires : tie.Need-judge-requires
 judge-requires c κs = search needs

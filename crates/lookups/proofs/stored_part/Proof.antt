@@ -1,8 +1,9 @@
 use native.Mathlib.Omega.{arith}
 use borrow.Author.Needs.{needs}
-use Rattle.profile.proofs.Found.{part-none, part-room, part-some}
-use Rattle.profile.proofs.stored_part.Statement.{statement}
-use Rattle.profile.proofs.stored_part.Tie as tie
+use Rattle.profile.proofs.Found.{part-room}
+use Rattle.lookups.proofs.Found.{part-none, part-some}
+use Rattle.lookups.proofs.stored_part.Statement.{statement}
+use Rattle.lookups.proofs.stored_part.Tie as tie
 
 returns : tie.Need-returns
 returns c = search part-none

@@ -1,7 +1,7 @@
 use borrow.Author.Needs.{needs}
-use Rattle.profile.proofs.Opened.{information-in, information-bytes}
-use Rattle.profile.proofs.service_information.Statement.{statement}
-use Rattle.profile.proofs.service_information.Tie as tie
+use Rattle.lookups.proofs.Looking.{information-in, information-bytes}
+use Rattle.lookups.proofs.service_information.Statement.{statement}
+use Rattle.lookups.proofs.service_information.Tie as tie
 
 information-requires : tie.Need-information-requires
 information-requires c κs = search needs

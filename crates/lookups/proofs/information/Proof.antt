@@ -1,8 +1,9 @@
 use native.Mathlib.Omega.{arith}
 use borrow.Author.Needs.{needs}
-use Rattle.profile.proofs.Opened.{opened, table-of, criterion-inside, information-refused, information-past, information-none, information-there}
-use Rattle.profile.proofs.information.Statement.{statement}
-use Rattle.profile.proofs.information.Tie as tie
+use Rattle.profile.proofs.Opened.{opened, table-of, criterion-inside}
+use Rattle.lookups.proofs.Looking.{information-refused, information-past, information-none, information-there}
+use Rattle.lookups.proofs.information.Statement.{statement}
+use Rattle.lookups.proofs.information.Tie as tie
 
 judge-requires : tie.Need-judge-requires
 judge-requires c κs = search needs

@@ -5,10 +5,10 @@ use mathlib.Core.Path.{_≡_}
 use Prim.Native.Nat.{ℕ}
 use mathlib.Core.List.{List}
 use lib.ListN.{length, take, drop, getElem?}
 use Rattle.profile.specs.Image.{Stored, Criterion, Judged, accepted, refused}
 use Rattle.profile.specs.Judging.{judge}
-use Rattle.profile.specs.declared.Checked.{Checked}
-use Rattle.profile.specs.declared.Lookup.{Lookup}
+use Rattle.lookups.specs.declared.Checked.{Checked}
+use Rattle.lookups.specs.declared.Lookup.{Lookup}
 
 -- ---- the check
 

@@ -6,10 +6,10 @@ use mathlib.Core.List.{List}
 use lib.ListN.{length, getElem?}
 use Rattle.octets.proofs.Options.{Ok}
 use Rattle.octets.proofs.Each.{each-at}
 use Rattle.profile.specs.Image.{Stored, Criterion, Profile, Judged, accepted}
 use Rattle.profile.specs.Judging.{judge}
-use Rattle.profile.specs.Lookups.{its-server, its-information, look-judged, look-at, the-part, server, information, part-of}
+use Rattle.lookups.specs.Lookups.{its-server, its-information, look-judged, look-at, the-part, server, information, part-of}
 use Rattle.profile.proofs.Accepted.{Inside, Fine, Sound, accepted-sound}
 
 module _ (image : List ℕ) (p : Profile) (judged : judge image ≡ accepted p) (i : ℕ) (c : Criterion) (there : getElem? (p .criteria) i ≡ some c) where
   is-fine : Fine image (length (p .rows)) c

@@ -1,9 +1,9 @@
 use denote.Ref.{now}
 use mathlib.Core.Path.{refl}
 use borrow.Author.Needs.{needs}
-use Rattle.profile.proofs.Found.{part-is}
-use Rattle.profile.proofs.part.Statement.{statement}
-use Rattle.profile.proofs.part.Tie as tie
+use Rattle.lookups.proofs.Found.{part-is}
+use Rattle.lookups.proofs.part.Statement.{statement}
+use Rattle.lookups.proofs.part.Tie as tie
 
 cast-a : tie.Need-cast-a
 cast-a c = search needs

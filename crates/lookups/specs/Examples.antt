@@ -1,0 +1,42 @@
+-- Lookups over worked images. One list, one claim.
+use mathlib.Core.Bool.{Bool, true, false, not, _&&_}
+use Prim.Native.Nat.{ℕ}
+use mathlib.Core.List.{List, [], _∷_, _++_}
+use lib.Dec.{T, eqb}
+use Rattle.octets.specs.Lists.{every}
+use Rattle.profile.specs.Examples.{two, with-criteria, one-criterion}
+use Rattle.lookups.specs.Lookups.{server, information}
+use Rattle.lookups.specs.declared.Lookup.{Lookup}
+
+-- a server's start and length; information's presence, start and length; no such criterion
+pub data Example : Type 0 where
+  serves : List ℕ → ℕ → ℕ → ℕ → Example
+  informs : List ℕ → ℕ → Bool → ℕ → ℕ → Example
+  no-such : List ℕ → ℕ → Example
+
+abbrev agrees : Bool → Bool → Bool
+agrees true b = b
+agrees false b = not b
+
+abbrev stands : Lookup → Bool → ℕ → ℕ → Bool
+stands l present start len = eqb (l .refusal) 0 && agrees present (l .present) && eqb (l .start) start && eqb (l .length) len
+
+unfoldable pub right : Example → Bool
+unfolding server information
+right (serves s i start len) = stands (server s i) true start len
+right (informs s i present start len) = stands (information s i) present start len
+right (no-such s i) = eqb (server s i .refusal) 13 && eqb (information s i .refusal) 13
+
+unfoldable pub examples : List Example
+examples =
+    -- the part of the image; information that is absent, and present but empty
+    serves one-criterion 0 5 5
+    ∷ no-such one-criterion 1
+    ∷ informs one-criterion 0 false 0 0
+    ∷ informs (with-criteria 1 ((0 ∷ 0 ∷ 0 ∷ 5 ∷ 2 ∷ 2 ∷ []) ++ two 0 ++ two 0 ++ two 0 ++ (0 ∷ []) ++ two 2)) 0 true 11 0
+    ∷ []
+
+-- every example is right
+pub all-right : T (every right examples)
+unfolding right examples
+all-right = tt

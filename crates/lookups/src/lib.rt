@@ -1,0 +1,132 @@
+// The check of an image, and the lookups of a criterion's server and service information. The definitions stand in specs/.
+ghost use mathlib.Core.Path.{_≡_};
+ghost use mathlib.Core.Option.{some};
+ghost use Prim.Native.Nat.{_+_, _≤_};
+ghost use lib.ListN.{length};
+ghost use Rattle.profile.specs.Answers.{Table};
+ghost use Rattle.profile.specs.Decoded.{stored-in, string-of};
+ghost use Rattle.lookups.specs.Lookups.{no-part, the-part, part-of, server as server-of, information as information-of, Checks, Serves, Informs};
+
+// What the check of an image answers: the refusal number (0 if none) and its place.
+pub struct Checked {
+    pub refusal: u32,
+    pub place: u32,
+}
+
+// What a lookup answers: the refusal number (0 if none) and its place, whether the part is present, and where it stands in the image.
+pub struct Lookup {
+    pub refusal: u32,
+    pub place: u32,
+    pub present: bool,
+    pub start: u32,
+    pub length: u32,
+}
+
+pub fn check(image: &[u8]) -> Checked
+    ensures { λ r. ⌜ Checks (now (image .entry)) r ⌝ }
+{
+    let j = profile::judge(image);
+    Checked {
+        refusal: j.refusal,
+        place: j.place,
+    }
+}
+
+fn no_part_with(refusal: u32, place: u32) -> Lookup
+    ensures { λ r. ⌜ r ≡ no-part refusal place ⌝ }
+{
+    Lookup {
+        refusal,
+        place,
+        present: false,
+        start: 0,
+        length: 0,
+    }
+}
+
+// String i as a part of the image; the empty one where there is none.
+fn stored_part(s: &[u8], table: &[u16; 1024], n: usize, i: usize) -> Lookup
+    requires { ⌜ Table (now s) n (now table) × (length (now s) ≤ 32768) ⌝ }
+    ensures { λ r. ⌜ r ≡ the-part (some (string-of (stored-in (now (s .entry)) n (now (table .entry))) i)) ⌝ }
+{
+    if n <= i {
+        return Lookup {
+            refusal: 0,
+            place: 0,
+            present: true,
+            start: 0,
+            length: 0,
+        };
+    }
+    let o = profile::wide16(table[i]);
+    let n = profile::number(s, o);
+    Lookup {
+        refusal: 0,
+        place: 0,
+        present: true,
+        start: (o + 2) as u32,
+        length: n as u32,
+    }
+}
+
+pub fn server(image: &[u8], criterion: u32) -> Lookup
+    ensures { λ r. ⌜ Serves (now (image .entry)) criterion r ⌝ }
+{
+    let j = profile::judge(image);
+    if j.refusal != 0 {
+        return no_part_with(j.refusal, j.place);
+    }
+    let y = j.layout;
+    let i = criterion as usize;
+    if y.criterion_count <= i {
+        return no_part_with(13, 0);
+    }
+    let table = j.table;
+    let at = y.criteria + 15 * i;
+    stored_part(image, &table, y.strings, profile::number(image, at + 10))
+}
+
+pub fn information(image: &[u8], criterion: u32) -> Lookup
+    ensures { λ r. ⌜ Informs (now (image .entry)) criterion r ⌝ }
+{
+    let j = profile::judge(image);
+    if j.refusal != 0 {
+        return no_part_with(j.refusal, j.place);
+    }
+    let y = j.layout;
+    let i = criterion as usize;
+    if y.criterion_count <= i {
+        return no_part_with(13, 0);
+    }
+    let at = y.criteria + 15 * i;
+    let k = profile::number(image, at + 13);
+    if k == 65535 {
+        return no_part_with(0, 0);
+    }
+    let table = j.table;
+    stored_part(image, &table, y.strings, k)
+}
+
+// A lookup's part of the image, no copy.
+fn part<'a>(image: &'a [u8], l: Lookup) -> &'a [u8]
+    requires { ⌜ l .start + l .length ≤ length (now image) ⌝ }
+    ensures { λ r. ⌜ now r ≡ part-of (now (image .entry)) l ⌝ }
+{
+    let a = l.start as usize;
+    let e = a + l.length as usize;
+    &image[a..e]
+}
+
+pub fn server_name(image: &[u8], criterion: u32) -> &[u8]
+    ensures { λ r. ⌜ now r ≡ part-of (now (image .entry)) (server-of (now (image .entry)) criterion) ⌝ }
+{
+    let l = server(image, criterion);
+    part(image, l)
+}
+
+pub fn service_information(image: &[u8], criterion: u32) -> &[u8]
+    ensures { λ r. ⌜ now r ≡ part-of (now (image .entry)) (information-of (now (image .entry)) criterion) ⌝ }
+{
+    let l = information(image, criterion);
+    part(image, l)
+}
