@@ -3,39 +3,65 @@ use mathlib.Core.Path.{_≡_, refl, sym, ap, ap₂, _∙_, subst, subst⁻¹}
 use mathlib.Core.Bool.{Bool, true, false, not, _&&_, _||_, or-false, and-true, and-false}
 use mathlib.Core.List.{List, []}
 use Prim.Native.Nat.{ℕ, _*_, _-_, _%_, _^_, _<_, _≤_}
-use native.Mathlib.Nat.{lt-trans}
-use lib.Bits.{bitAnd, bitOr, bitXor}
+use native.Mathlib.Nat.{lt-trans, lt-of-le-of-lt}
+use native.Mathlib.Omega.{arith}
+use lib.Bits.{bitAnd, bitOr, bitXor, and-le-l}
 use lib.Count.{trailingZeros}
-use lib.Dec.{T, eqb, eqb→eq, eqb-refl}
+use lib.Dec.{T, eqb, eqb→eq, eqb-refl, ltb}
 use lib.ListN.{getD}
-use borrow.Author.Tests.{eqb-true, lt-ltb, le-ltb}
+use lib.Pow.{pow-pos}
+use borrow.Author.Tests.{eqb-true, lt-ltb, le-ltb, ltb-true, ltb-false}
 use Rattle.octets.specs.Bits.{bit}
-use Rattle.octets.proofs.Bits.{bit-zero, bit-or, bit-add, bit-drop, drop-lt, lowest-set, lowest-drop, bit-below, shl-one}
-use Rattle.octets.proofs.Tests.{T-of, not-T-of, is-true, left, or-left, or-right, or-cases}
+use Rattle.octets.proofs.Bits.{bit-zero, bit-and, bit-ones, bit-or, bit-add, bit-drop, drop-lt, lowest-set, lowest-drop, bit-below, shl-one}
+use Rattle.octets.proofs.Tests.{T-of, not-T-of, is-true, left, right, or-left, or-right, or-cases}
 use Rattle.machine.specs.Machine.{in-set, met, Stepped}
+
+-- ---- the code's test
+
+module _ (sets : List (List ℕ)) (size b p : ℕ) where
+  pub met-past : size ≤ p → met size sets b p ≡ false
+  unfolding met
+  met-past h = ap (λ (a : Bool). a && in-set (getD sets p []) b) (le-ltb p size h)
+
+  pub met-is : p < size → (r t : Bool) → r ≡ in-set (getD sets p []) b → r ≡ t → met size sets b p ≡ t
+  unfolding met
+  met-is h r t e q = ap (λ (a : Bool). a && in-set (getD sets p []) b) (lt-ltb p size h) ∙ sym e ∙ q
+
+-- ---- the candidates, one by one
+
+pub size-bit : (size : ℕ) → size ≤ 60 → 1 ≤ 1 * 2 ^ size % 2 ^ 64
+size-bit size h = subst⁻¹ (λ (n : ℕ). 1 ≤ n) (shl-one 64 size (omega arith)) (pow-pos size)
 
 module _ (sets : List (List ℕ)) (before : List ℕ) (size candidates b : ℕ) where
   pub record Stepping (rest live next : ℕ) : Type 0 where
     pub fits : rest < 2 ^ 64
+    pub positions : (k : ℕ) → T (bit rest k) → k < size
     pub among : (k : ℕ) → T (bit rest k) → T (bit candidates k)
     pub done : Stepped sets before size candidates b rest live next
 
-  pub step-none : candidates < 2 ^ 64 → Stepping candidates 0 0
-  step-none h =
-      record {
-        fits = h;
-        among = λ k t. t;
+  -- the candidates that are positions
+  pub step-none : candidates < 2 ^ 64 → size ≤ 60 → Stepping (bitAnd candidates (1 * 2 ^ size % 2 ^ 64 - 1)) 0 0
+  step-none h few =
+      subst⁻¹ (λ (n : ℕ). Stepping (bitAnd candidates (n - 1)) 0 0) (shl-one 64 size (omega arith))
+      (record {
+        fits = lt-of-le-of-lt (and-le-l candidates (2 ^ size - 1)) h;
+        positions = λ k t. ltb-true k size (is-true (ltb k size) (right (bit candidates k) (ltb k size) (subst T (kept-bit k) t)));
+        among = λ k t. left (bit candidates k) (ltb k size) (subst T (kept-bit k) t);
         done =
             record {
-              kept = λ k. bit-zero k ∙ sym (ap (λ (t : Bool). t && met size sets b k) (excluded (bit candidates k)));
+              kept = λ k. bit-zero k ∙ sym (ap (λ (t : Bool). bit candidates k && not t && met size sets b k) (kept-bit k) ∙ none-met k (bit candidates k) (ltb k size) refl);
               back = λ p t. absurd (not-T-of (bit-zero p) t);
               forth = λ p q t u. absurd (not-T-of (bit-zero q) t);
             };
-      }
+      })
     where
-      excluded : (t : Bool) → (t && not t) ≡ false
-      excluded true = refl
-      excluded false = refl
+      kept-bit : (k : ℕ) → bit (bitAnd candidates (2 ^ size - 1)) k ≡ (bit candidates k && ltb k size)
+      kept-bit k = bit-and candidates (2 ^ size - 1) k ∙ ap (λ (t : Bool). bit candidates k && t) (bit-ones size k)
+
+      none-met : (k : ℕ) (c t : Bool) → ltb k size ≡ t → (c && not (c && t) && met size sets b k) ≡ false
+      none-met k true true e = refl
+      none-met k true false e = met-past sets size b k (ltb-false k size e)
+      none-met k false t e = refl
 
   pub step-all : (rest live next : ℕ) → Stepping rest live next → rest ≡ 0 → Stepped sets before size candidates b 0 live next
   step-all rest live next s e = subst (λ (n : ℕ). Stepped sets before size candidates b n live next) e (s .done)
@@ -47,6 +73,9 @@ module _ (sets : List (List ℕ)) (before : List ℕ) (size candidates b : ℕ) 
 
     pub lowest-lt : p < 64
     lowest-lt = bit-below 64 rest p (s .fits) set-at
+
+    pub lowest-position : p < size
+    lowest-position = s .positions p (T-of set-at)
 
     abbrev rest′ : ℕ
     rest′ = bitAnd rest (rest - 1)
@@ -65,6 +94,9 @@ module _ (sets : List (List ℕ)) (before : List ℕ) (size candidates b : ℕ) 
 
     step-fits : rest′ < 2 ^ 64
     step-fits = lt-trans step-less (s .fits)
+
+    step-positions : (k : ℕ) → T (bit rest′ k) → k < size
+    step-positions k t = s .positions k (left (bit rest k) (not (eqb k p)) (subst T (taken k) t))
 
     step-among : (k : ℕ) → T (bit rest′ k) → T (bit candidates k)
     step-among k t = s .among k (left (bit rest k) (not (eqb k p)) (subst T (taken k) t))
@@ -93,6 +125,7 @@ module _ (sets : List (List ℕ)) (before : List ℕ) (size candidates b : ℕ) 
     step-skip mp =
         record {
           fits = step-fits;
+          positions = step-positions;
           among = step-among;
           done =
               record {
@@ -112,6 +145,7 @@ module _ (sets : List (List ℕ)) (before : List ℕ) (size candidates b : ℕ) 
     step-keep mp =
         record {
           fits = step-fits;
+          positions = step-positions;
           among = step-among;
           done =
               record {
@@ -132,14 +166,3 @@ module _ (sets : List (List ℕ)) (before : List ℕ) (size candidates b : ℕ) 
             or-cases (bit live q) (eqb q p) t
             (λ v. or-left (bit next r) (bit (getD before p 0) r) (s .done .forth r q v u))
             (λ v. or-right (bit next r) (bit (getD before p 0) r) (subst (λ (k : ℕ). T (bit (getD before k 0) r)) (eqb→eq q p v) u))
-
--- ---- the code's test
-
-module _ (sets : List (List ℕ)) (size b p : ℕ) where
-  pub met-past : size ≤ p → met size sets b p ≡ false
-  unfolding met
-  met-past h = ap (λ (a : Bool). a && in-set (getD sets p []) b) (le-ltb p size h)
-
-  pub met-is : p < size → (r t : Bool) → r ≡ in-set (getD sets p []) b → r ≡ t → met size sets b p ≡ t
-  unfolding met
-  met-is h r t e q = ap (λ (a : Bool). a && in-set (getD sets p []) b) (lt-ltb p size h) ∙ sym e ∙ q

@@ -44,17 +44,15 @@ fn step(sets: &[[u64; 4]; 60], before: &[u64; 60], size: usize, candidates: u64,
     requires { ⌜ size ≤ 60 ⌝ }
     ensures { λ r. ⌜ Stepped (now (sets .entry)) (now (before .entry)) size candidates b 0 (r .live) (r .next) ⌝ }
 {
-    let mut left = candidates;
+    let mut left = candidates & ((1 << size) - 1);
     let mut live: u64 = 0;
     let mut next: u64 = 0;
     while left != 0 {
         let p = u64::trailing_zeros(left) as usize;
         left = left & (left - 1);
-        if p < size {
-            if has(sets, p, b) {
-                live = live | 1 << p;
-                next = next | before[p];
-            }
+        if has(sets, p, b) {
+            live = live | 1 << p;
+            next = next | before[p];
         }
     }
     Front { live, next }

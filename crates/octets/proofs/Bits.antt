@@ -332,6 +332,15 @@ bit-mask (suc w) f k = go (f w) refl (bit-mask w f k)
         ap (λ (x : ℕ). bit x k) (zero-add (mask w f)) ∙ ih
         ∙ sym (ap (λ (x : Bool). (ltb k w && f k) || x) (and-false (eqb k w)) ∙ or-false (ltb k w && f k)) ∙ past false e
 
+-- the w low bits, all set
+ones : (w : ℕ) → mask w (λ k. true) ≡ 2 ^ w - 1
+unfolding mask
+ones zero = refl
+ones (suc w) = ap (λ (x : ℕ). 2 ^ w + x) (ones w) ∙ omega (arith, pow-suc 2 w, pow-pos w)
+
+pub bit-ones : (w k : ℕ) → bit (2 ^ w - 1) k ≡ ltb k w
+bit-ones w k = ap (λ (n : ℕ). bit n k) (sym (ones w)) ∙ bit-mask w (λ k. true) k ∙ and-true (ltb k w)
+
 -- a number below 2 ^ w is the mask of its bits
 pub mask-of : (w n : ℕ) (f : ℕ → Bool) → n < 2 ^ w → ((k : ℕ) → k < w → bit n k ≡ f k) → n ≡ mask w f
 mask-of w n f h e =

@@ -1,8 +1,8 @@
-use borrow.Author.Needs.{needs}
-use Rattle.machine.proofs.Stepping.{Stepping, step-none, step-all, step-skip, step-keep, step-less, lowest-lt, met-past, met-is}
+use Rattle.machine.proofs.Stepping.{Stepping, size-bit, step-none, step-all, step-skip, step-keep, step-less, lowest-lt, lowest-position, met-is}
 use lib.Count.{trailing-le}
 use mathlib.Core.Path.{refl}
 use native.Mathlib.Omega.{arith}
+use borrow.Author.Needs.{needs}
 use Rattle.machine.proofs.step.Statement.{statement}
 use Rattle.machine.proofs.step.Tie as tie
 
@@ -12,48 +12,50 @@ Inv-loop sets before size candidates b left₀ live₀ next₀ left live next = 
 abbrev μ-loop : tie.MeasureT-loop
 μ-loop sets before size candidates b left₀ live₀ next₀ left live next = left
 
+shl-left : tie.Need-shl-left Inv-loop μ-loop
+shl-left c = search needs
+
+sub-left : tie.Need-sub-left Inv-loop μ-loop
+sub-left c = size-bit _ (c .pre)
+
 loop-holds : tie.Need-loop-holds Inv-loop μ-loop
 loop-holds c = search step-none
 
 cast-p : tie.Need-cast-p Inv-loop μ-loop
 cast-p c = omega (arith, trailing-le 64 (c .before .loop .left))
 
-sub-left : tie.Need-sub-left Inv-loop μ-loop
-sub-left c = search needs
+sub-left-2 : tie.Need-sub-left-2 Inv-loop μ-loop
+sub-left-2 c = search needs
 
 has-requires : tie.Need-has-requires Inv-loop μ-loop
-has-requires c κs = search needs
+has-requires c κs = omega (arith, lowest-position _ _ _ _ _ _ _ _ (c .before .loop .inv) (c .loop-test .taken) _ refl, c .before .before .pre)
 
 shl-live : tie.Need-shl-live Inv-loop μ-loop
-shl-live c = lowest-lt _ _ _ _ _ _ _ _ (c .before .before .before .before .loop .inv) (c .before .before .before .loop-test .taken) _ refl
+shl-live c = lowest-lt _ _ _ _ _ _ _ _ (c .before .before .before .loop .inv) (c .before .before .loop-test .taken) _ refl
 
 mul-next : tie.Need-mul-next Inv-loop μ-loop
-mul-next c = search needs
+mul-next c = omega (arith, lowest-lt _ _ _ _ _ _ _ _ (c .before .before .before .loop .inv) (c .before .before .loop-test .taken) _ refl)
 
 element-copy-out-next : tie.Need-element-copy-out-next Inv-loop μ-loop
-element-copy-out-next c = search needs
+element-copy-out-next c = search (needs, lowest-position _ _ _ _ _ _ _ _ (c .before .before .before .loop .inv) (c .before .before .loop-test .taken) _ refl)
 
 loop-less : tie.Need-loop-less Inv-loop μ-loop
-loop-less c = step-less _ _ _ _ _ _ _ _ (c .before .before .before .before .before .loop .inv) (c .before .before .before .before .loop-test .taken) _ refl
+loop-less c = step-less _ _ _ _ _ _ _ _ (c .before .before .before .before .loop .inv) (c .before .before .before .loop-test .taken) _ refl
 
 loop-again : tie.Need-loop-again Inv-loop μ-loop
 loop-again c =
-    step-keep _ _ _ _ _ _ _ _ (c .before .before .before .before .before .loop .inv) (c .before .before .before .before .loop-test .taken) _ refl
-    (met-is _ _ _ _ (c .before .before .before .if1 .taken) _ _ (c .before .before .has .ensures) (c .before .if2 .taken))
+    let t = c .before .before .before in
+    let position = lowest-position _ _ _ _ _ _ _ _ (t .before .loop .inv) (t .loop-test .taken) _ refl in
+    step-keep _ _ _ _ _ _ _ _ (t .before .loop .inv) (t .loop-test .taken) _ refl (met-is _ _ _ _ position _ _ (c .before .before .has .ensures) (c .before .if1 .taken))
 
 loop-less-2 : tie.Need-loop-less-2 Inv-loop μ-loop
-loop-less-2 c = step-less _ _ _ _ _ _ _ _ (c .before .before .before .before .loop .inv) (c .before .before .before .loop-test .taken) _ refl
+loop-less-2 c = step-less _ _ _ _ _ _ _ _ (c .before .before .before .loop .inv) (c .before .before .loop-test .taken) _ refl
 
 loop-again-2 : tie.Need-loop-again-2 Inv-loop μ-loop
 loop-again-2 c =
-    step-skip _ _ _ _ _ _ _ _ (c .before .before .before .before .loop .inv) (c .before .before .before .loop-test .taken) _ refl
-    (met-is _ _ _ _ (c .before .before .if1 .taken) _ _ (c .before .has .ensures) (c .if2 .left))
-
-loop-less-3 : tie.Need-loop-less-3 Inv-loop μ-loop
-loop-less-3 c = step-less _ _ _ _ _ _ _ _ (c .before .before .loop .inv) (c .before .loop-test .taken) _ refl
-
-loop-again-3 : tie.Need-loop-again-3 Inv-loop μ-loop
-loop-again-3 c = step-skip _ _ _ _ _ _ _ _ (c .before .before .loop .inv) (c .before .loop-test .taken) _ refl (met-past _ _ _ _ (c .if1 .left))
+    let t = c .before .before in
+    let position = lowest-position _ _ _ _ _ _ _ _ (t .before .loop .inv) (t .loop-test .taken) _ refl in
+    step-skip _ _ _ _ _ _ _ _ (t .before .loop .inv) (t .loop-test .taken) _ refl (met-is _ _ _ _ position _ _ (c .before .has .ensures) (c .if1 .left))
 
 returns : tie.Need-returns Inv-loop μ-loop
 returns c = search step-all
@@ -64,9 +66,11 @@ step-spec =
     (tie.spec
     Inv-loop
     μ-loop
+    shl-left
+    sub-left
     loop-holds
     cast-p
-    sub-left
+    sub-left-2
     has-requires
     shl-live
     mul-next
@@ -75,6 +79,4 @@ step-spec =
     loop-again
     loop-less-2
     loop-again-2
-    loop-less-3
-    loop-again-3
     returns)
