@@ -22,7 +22,7 @@ use Rattle.request.specs.Body.{session-lines, request-lines}
 use Rattle.request.specs.Places.{part}
 use Rattle.request.specs.Request.{Request}
 use Rattle.rows.specs.Rows.{Given, registration-fits, test-fits, test-trials, row-fits, row-trials}
-use Rattle.rows.specs.Tried.{request-of, Placed, row-of, ByPattern, Matchable, given, Tried}
+use Rattle.rows.specs.Tried.{request-of, Placed, Spare, row-of, ByPattern, Matchable, given, Tried}
 use Rattle.rows.specs.Trying.{one-trial, field-row, line-row, all-rows, patterns-row, test-row}
 use Rattle.rows.specs.declared.Places.{Places}
 use Rattle.rows.specs.declared.Verdict.{Verdict}
@@ -38,6 +38,16 @@ module _ (h : List ℕ) (shape : Shape) (sets : List (List ℕ)) (before : List 
 
   pub ready-head : b ≡ false → Ready true h shape sets before
   ready-head e = subst (λ (x : Bool). Ready (not x) h shape sets before) e r
+
+-- what is read into the lent places leaves their number
+pub spare-read : (f g : Bool) (h c : List ℕ) (h-shape c-shape : Shape) (h-sets : List (List ℕ)) (h-before : List ℕ) (c-sets : List (List ℕ)) (c-before : List ℕ)
+    → Ready f h h-shape h-sets h-before → Ready g c c-shape c-sets c-before → Spare h-sets h-before c-sets c-before
+spare-read f g h c h-shape c-shape h-sets h-before c-sets c-before k l = record {
+  h-sets-room = k .prepared .room-sets;
+  h-before-room = k .prepared .room-before;
+  c-sets-room = l .prepared .room-sets;
+  c-before-room = l .prepared .room-before;
+}
 
 module _ (s starts colons : List ℕ) (p : Places) (k : Placed s starts colons p) where
   pub body-place : p .head + 4 < 18446744073709551616

@@ -5,7 +5,7 @@ use mathlib.Core.Path.{_≡_}
 use mathlib.Core.List.{List, []}
 use Prim.Native.Nat.{ℕ, _≤_}
 use lib.Dec.{eqb}
-use lib.ListN.{take}
+use lib.ListN.{length, take}
 use Rattle.pattern.specs.Answers.{is-pattern}
 use Rattle.profile.specs.Decoded.{string-of, test-from}
 use Rattle.profile.specs.Image as image
@@ -34,6 +34,13 @@ pub record Placed (s starts colons : List ℕ) (p : Places) : Type 0 where
   pub read : Readable (p .method) (p .uri) (p .head) (p .fields) ≡ reading (head-of s) (read-request s)
   pub starts-are : take (p .fields) starts ≡ starts-of (head-of s) (read-request s)
   pub colons-are : take (p .fields) colons ≡ colons-of (head-of s) (read-request s)
+
+-- places for two patterns: 60 positions each
+pub record Spare (h-sets : List (List ℕ)) (h-before : List ℕ) (c-sets : List (List ℕ)) (c-before : List ℕ) : Type 0 where
+  pub h-sets-room : length h-sets ≡ 60
+  pub h-before-room : length h-before ≡ 60
+  pub c-sets-room : length c-sets ≡ 60
+  pub c-before-room : length c-before ≡ 60
 
 -- ---- the row
 

@@ -11,7 +11,7 @@ single-requires : tie.Need-single-requires
 single-requires c κs = search needs
 
 returns : tie.Need-returns
-returns c = (search case-row, search single-few)
+returns c = ((search case-row, search single-few), c .before .before .before .before .before .before .before .before .pre .1 .1 .1 .1)
 
 string-bytes-requires : tie.Need-string-bytes-requires
 string-bytes-requires c κs = search needs
@@ -35,7 +35,7 @@ single-requires-2 : tie.Need-single-requires-2
 single-requires-2 c κs = search needs
 
 returns-2 : tie.Need-returns-2
-returns-2 c = (search uri-row, search single-few)
+returns-2 c = ((search uri-row, search single-few), c .before .before .before .before .before .before .before .before .before .before .before .pre .1 .1 .1 .1)
 
 sub-method-fits : tie.Need-sub-method-fits
 sub-method-fits c = search needs
@@ -53,7 +53,7 @@ single-requires-3 : tie.Need-single-requires-3
 single-requires-3 c κs = search needs
 
 returns-3 : tie.Need-returns-3
-returns-3 c = (search method-row, search single-few)
+returns-3 c = ((search method-row, search single-few), c .before .before .before .before .before .before .before .before .before .before .before .before .pre .1 .1 .1 .1)
 
 string-bytes-requires-2 : tie.Need-string-bytes-requires-2
 string-bytes-requires-2 c κs = search needs
@@ -65,7 +65,7 @@ same-length : tie.Need-same-length
 same-length c = search needs
 
 returns-4 : tie.Need-returns-4
-returns-4 c = (search pattern-row, search needs)
+returns-4 c = ((pattern-row _ _ (c .before .before .before .before .before .before .before .before .before .before .before .before .before .before .before .before .before .before .pre .1 .0) (c .before .before .before .before .before .before .before .before .before .before .before .before .if1 .left) (c .before .before .before .before .before .before .before .before .before .before .if2 .left) (c .before .before .before .before .before .before .before .before .before .if3 .left) _ _ _ _ _ (c .before .before .before .before .before .before .before .before .before .before .before .string-bytes .ensures) (c .before .before .before .before .before .before .before .before .string-bytes2 .ensures) _ (c .before .before .try-patterns .ensures .0 .0), search needs), c .before .before .try-patterns .ensures .1)
 
 pub try-test-spec : {M : Type 1} → statement M
 try-test-spec =
