@@ -143,6 +143,9 @@ static int by_regexec(void) { return peer_advance(request, request_len, 0, PEER_
 #ifdef WITH_PCRE2
 static int by_pcre2(void) { return peer_advance(request, request_len, 0, PEER_PCRE2); }
 #endif
+#ifdef WITH_RE2
+static int by_re2(void) { return peer_advance(request, request_len, 0, PEER_RE2); }
+#endif
 
 /* ---- time: the processor's for this program, the best of several rounds */
 
@@ -176,6 +179,9 @@ static const struct {
     {"(c) plain C of our algorithm", by_plain},
 #ifdef WITH_PCRE2
     {"(d) PCRE2, patterns compiled to code before", by_pcre2},
+#endif
+#ifdef WITH_RE2
+    {"(e) RE2, patterns compiled before", by_re2},
 #endif
 };
 enum { SIDES = sizeof sides / sizeof *sides };
