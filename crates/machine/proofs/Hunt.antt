@@ -1,6 +1,6 @@
 -- The scan of a test: it ends at the first part that it finds, and leaves out what cannot change the answer.
 use mathlib.Core.Path.{_≡_, refl, sym, ap, ap₂, _∙_, subst, subst⁻¹}
-use mathlib.Core.Bool.{Bool, true, false, not, _&&_, _||_, true≢false, and-false}
+use mathlib.Core.Bool.{Bool, true, false, not, _&&_, _||_, true≢false, or-false, and-false}
 use mathlib.Core.List.{List, [], _∷_}
 use Prim.Native.Nat.{ℕ, zero, suc, _+_, _-_, _^_, _<_, _≤_, zero-le}
 use native.Mathlib.Omega.{arith}
@@ -9,7 +9,7 @@ use lib.Count.{trailingZeros}
 use lib.Dec.{T, eqb, ltb}
 use lib.ListN.{length, getD, drop}
 use lib.Seq.{drop-length}
-use borrow.Author.Tests.{ltb-true, ltb-false, lt-ltb, eq-eqb, ne-eqb, eqb-true}
+use borrow.Author.Tests.{ltb-true, ltb-false, lt-ltb, eq-eqb, ne-eqb, eqb-true, not-false}
 use Rattle.octets.specs.Bits.{bit}
 use Rattle.octets.specs.Lists.{empty}
 use Rattle.octets.proofs.Bits.{bit-zero, bit-or, bit-drop, bit-nonzero, some-bit, lowest-set, lowest-drop}
@@ -29,11 +29,7 @@ only-one mask p h n z e l k t =
     let set : bit mask p ≡ true = ap (bit mask) e ∙ lowest-set 64 mask h n in
     let rest : (bit mask k && not (eqb k p)) ≡ false =
     sym (bit-drop mask p k set) ∙ ap (λ (m : ℕ). bit m k) (sym (lowest-drop 64 mask p h n e) ∙ z) ∙ bit-zero k in
-    eqb-true k p (kept (eqb k p) (ap (λ (a : Bool). a && not (eqb k p)) (sym (is-true (bit mask k) t)) ∙ rest))
-  where
-    kept : (a : Bool) → not a ≡ false → a ≡ true
-    kept true q = refl
-    kept false q = absurd (true≢false q)
+    eqb-true k p (not-false (eqb k p) (ap (λ (a : Bool). a && not (eqb k p)) (sym (is-true (bit mask k) t)) ∙ rest))
 
 or-none-left : (a b : ℕ) → bitOr a b ≡ 0 → a ≡ 0
 or-none-left a b e = go (eqb a 0) refl
@@ -106,11 +102,7 @@ module _ (h : Shape) (sets : List (List ℕ)) (before : List ℕ) where
       }
     where
       none-at : (k : ℕ) (t : Bool) → bit (h .stops) k ≡ t → (bit (bitOr 0 (h .stops)) k && not (bit 0 k) && met (h .size) sets b k) ≡ false
-      none-at k true e = ap₂ (λ (a : Bool) (m : Bool). a && not (bit 0 k) && m) e (unmet k (T-of e)) ∙ and-no (not (bit 0 k))
-        where
-          and-no : (a : Bool) → (true && a && false) ≡ false
-          and-no true = refl
-          and-no false = refl
+      none-at k true e = ap₂ (λ (a : Bool) (m : Bool). a && not (bit 0 k) && m) e (unmet k (T-of e)) ∙ and-false (true && not (bit 0 k))
       none-at k false e = ap (λ (a : Bool). a && not (bit 0 k) && met (h .size) sets b k) e
 
   module _ (text : List ℕ) where
@@ -122,11 +114,7 @@ module _ (h : Shape) (sets : List (List ℕ)) (before : List ℕ) where
         tested-is : tested h sets before text (length text) true 0 ≡ h .whole
         tested-is =
             ap₂ _||_ (ap (λ (a : Bool). null-at h a true) (eq-eqb (length text) 0 z)) (ap (λ (n : ℕ). not (eqb n 0)) (and-zero-r (first-mask h (eqb (length text) 0))))
-            ∙ or-no (h .whole)
-          where
-            or-no : (a : Bool) → (a || false) ≡ a
-            or-no true = refl
-            or-no false = refl
+            ∙ or-false (h .whole)
 
         go : (t : Bool) → h .whole ≡ t → Found M text t
         go true e = found-end h sets before text (tested h sets before text (length text) true 0) refl (tested-is ∙ e)

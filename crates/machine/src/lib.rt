@@ -39,7 +39,7 @@ fn has(sets: &[[u64; 4]; 60], p: usize, b: u8) -> bool
     (sets[p][w] >> k) & 1 == 1
 }
 
-// Of the candidates, the positions that meet the byte b. Only the candidates are looked at.
+// Of the candidates, the positions that meet the byte b. Only the candidates are looked at; bits from size on are no positions.
 fn step(sets: &[[u64; 4]; 60], before: &[u64; 60], size: usize, candidates: u64, b: u8) -> Front
     requires { ⌜ size ≤ 60 ⌝ }
     ensures { λ r. ⌜ Stepped (now (sets .entry)) (now (before .entry)) size candidates b 0 (r .live) (r .next) ⌝ }
