@@ -26,7 +26,7 @@ use Rattle.pattern.proofs.Places.{peek-inside}
 
 -- ---- behind an atom and its `*`
 
-pub star-inside : (s : List ℕ) (e next : ℕ) → next ≡ peek (drop e s) → next ≡ 42 → e < length s
+star-inside : (s : List ℕ) (e next : ℕ) → next ≡ peek (drop e s) → next ≡ 42 → e < length s
 star-inside s e next n q = peek-inside s e (λ z. let y : _≡_ {A = ℕ} 42 256 = sym q ∙ n ∙ z in absurd (omega arith))
 
 pub behind-le : (s : List ℕ) (e : ℕ) → e ≤ length s → pick (eqb (peek (drop e s)) 42) (e + 1) e ≤ length s
@@ -39,8 +39,11 @@ behind-le s e h = go (eqb (peek (drop e s)) 42) refl
 behind-ge : (t : Bool) (e : ℕ) → e ≤ pick t (e + 1) e
 behind-ge t e = either (λ (n : ℕ). e ≤ n) t (e + 1) e (omega arith) (omega arith)
 
-pub behind-after : (s : List ℕ) (e j : ℕ) → j ≡ pick (eqb (peek (drop e s)) 42) (e + 1) e → e ≤ j
-behind-after s e j q = subst⁻¹ (λ (k : ℕ). e ≤ k) q (behind-ge (eqb (peek (drop e s)) 42) e)
+pub behind-after : (t : Bool) (e j : ℕ) → j ≡ pick t (e + 1) e → e ≤ j
+behind-after t e j q = subst⁻¹ (λ (k : ℕ). e ≤ k) q (behind-ge t e)
+
+pub behind-at : (s : List ℕ) (e next j : ℕ) → next ≡ peek (drop e s) → j ≡ pick (eqb next 42) (e + 1) e → j ≡ pick (eqb (peek (drop e s)) 42) (e + 1) e
+behind-at s e next j n q = q ∙ ap (λ (k : ℕ). pick (eqb k 42) (e + 1) e) n
 
 behind-drop : (t : Bool) (s : List ℕ) (e : ℕ) → pick t (drop 1 (drop e s)) (drop e s) ≡ drop (pick t (e + 1) e) s
 behind-drop true s e = drop-drop 1 e s

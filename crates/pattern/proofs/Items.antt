@@ -1,6 +1,6 @@
 -- The items of a bracket list, by place.
 use mathlib.Core.Path.{_≡_, refl, sym, ap, ap₂, _∙_, subst⁻¹}
-use mathlib.Core.Bool.{Bool, true, false, not, _&&_, _||_, true≢false, or-assoc, or-false}
+use mathlib.Core.Bool.{Bool, true, false, not, _&&_, _||_, true≢false, or-assoc, or-false, and-true}
 use mathlib.Core.Option.{Option, none}
 use mathlib.Core.List.{List}
 use Prim.Native.Nat.{ℕ, _+_, _<_, _≤_}
@@ -25,9 +25,13 @@ class-test b next u e =
     ∙ ap (λ (t : Bool). eqb b 91 && t) (or-assoc (eqb (peek u) 46) (eqb (peek u) 61) (eqb (peek u) 58)
     ∙ ap (λ (t : Bool). eqb (peek u) 46 || (eqb (peek u) 61 || t)) (sym (or-false (eqb (peek u) 58))))
 
-pub begins-test : (first : Bool) (b next : ℕ) (t : Bool) → ((u : List ℕ) → next ≡ peek u → t ≡ class-opens b u) → (u : List ℕ) → next ≡ peek u
-    → ((not (eqb b 45) || first || eqb next 93) && not t) ≡ (begins-item first b u && not (class-opens b u))
-begins-test first b next t k u e = ap₂ (λ (n : ℕ) (x : Bool). (not (eqb b 45) || first || eqb n 93) && not x) e (k u e)
+-- `-` opens no class
+pub dash-test : (first : Bool) (b next : ℕ) → b ≡ 45 → (u : List ℕ) → next ≡ peek u → (first || eqb next 93) ≡ (begins-item first b u && not (class-opens b u))
+dash-test first b next d u e =
+    ap (λ (n : ℕ). first || eqb n 93) e ∙ sym (and-true (first || eqb (peek u) 93)) ∙ ap (λ (k : ℕ). begins-item first k u && not (class-opens k u)) (sym d)
+
+pub begins-test : (first : Bool) (b : ℕ) (t : Bool) → (b ≡ 45 → ⊥) → (u : List ℕ) → t ≡ class-opens b u → not t ≡ (begins-item first b u && not (class-opens b u))
+begins-test first b t n u k = ap not k ∙ ap (λ (x : Bool). (not x || first || eqb (peek u) 93) && not (class-opens b u)) (sym (ne-eqb b 45 n))
 
 -- ---- answers
 

@@ -179,7 +179,7 @@ pub fn load(s: &[u8], fold: bool, sets: &mut [[u64; 4]; 60], before: &mut [u64; 
         sets[at] = set;
         before[at] = before_at(m, repeats);
         m = mark(m, repeats);
-        i = behind(s, end);
+        i = behind(end, repeats);
         first = false;
     }
     shape_by(m, left, false)

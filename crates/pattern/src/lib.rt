@@ -15,6 +15,7 @@ use crate::edition1::no_shape;
 use crate::reader::atom_at;
 use crate::reader::behind;
 use crate::reader::is_anchor;
+use crate::reader::peek_at;
 use crate::reader::start_at;
 use machine::Shape;
 use machine::found;
@@ -39,7 +40,8 @@ pub fn is_pattern(s: &[u8]) -> bool
         if end == 0 {
             return false;
         }
-        i = behind(s, end);
+        let repeats = peek_at(s, end) == 42;
+        i = behind(end, repeats);
         first = false;
         n += 1;
     }

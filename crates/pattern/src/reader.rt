@@ -42,7 +42,10 @@ pub(crate) fn peek_at(s: &[u8], i: usize) -> u16
 fn opens_class(b: u8, next: u16) -> bool
     ensures { λ r. ⌜ ((s : List ℕ) → next ≡ peek s → r ≡ class-opens b s) ⌝ }
 {
-    (b == 91) & ((next == 46) | (next == 61) | (next == 58))
+    if b == 91 {
+        return (next == 46) | (next == 61) | (next == 58);
+    }
+    false
 }
 
 fn no_item() -> Item
@@ -66,7 +69,10 @@ fn no_piece() -> Piece
 fn may_begin(first: bool, b: u8, next: u16) -> bool
     ensures { λ r. ⌜ ((s : List ℕ) → next ≡ peek s → r ≡ (begins-item first b s && not (class-opens b s))) ⌝ }
 {
-    ((b != 45) | first | (next == 93)) & !opens_class(b, next)
+    if b == 45 {
+        return first | (next == 93);
+    }
+    !opens_class(b, next)
 }
 
 // "a range that falls" is refused; its end is no `[` of a class.
@@ -204,10 +210,11 @@ pub(crate) fn atom_at(s: &[u8], i: usize, first: bool, build: bool) -> Piece
 }
 
 // Behind an atom that ends at `end`, and its `*`.
-pub(crate) fn behind(s: &[u8], end: usize) -> usize
-    ensures { λ r. ⌜ r ≡ pick (eqb (peek (drop end (now (s .entry)))) 42) (end + 1) end ⌝ }
+pub(crate) fn behind(end: usize, repeats: bool) -> usize
+    requires { ⌜ end < 9223372036854775808 ⌝ }
+    ensures { λ r. ⌜ r ≡ pick repeats (end + 1) end ⌝ }
 {
-    if peek_at(s, end) == 42 {
+    if repeats {
         return end + 1;
     }
     end

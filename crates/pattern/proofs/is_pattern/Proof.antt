@@ -1,5 +1,5 @@
 use borrow.Author.Needs.{needs}
-use Rattle.pattern.proofs.Elements.{Counted, count-empty, count-start, count-last, count-lost, count-more, count-done, behind-after}
+use Rattle.pattern.proofs.Elements.{Counted, count-empty, count-start, count-last, count-lost, count-more, count-done, behind-after, behind-at}
 use lib.ListN.{length}
 use Prim.Native.Nat.{_-_, _≤_}
 use native.Mathlib.Omega.{arith}
@@ -33,20 +33,23 @@ atom-at-requires c κs = search needs
 returns-3 : tie.Need-returns-3 Inv-loop μ-loop
 returns-3 c = search count-lost
 
+peek-at-requires : tie.Need-peek-at-requires Inv-loop μ-loop
+peek-at-requires c κs = search needs
+
 behind-requires : tie.Need-behind-requires Inv-loop μ-loop
-behind-requires c κs = search needs
+behind-requires c κs = omega (arith, c .before .before .atom-at .ensures .inside)
 
 add-n : tie.Need-add-n Inv-loop μ-loop
 add-n c = omega arith
 
 loop-less : tie.Need-loop-less Inv-loop μ-loop
 loop-less c =
-    let a = c .before .before .atom-at in
+    let a = c .before .before .before .atom-at in
     let j : a .result .end ≤ c .behind .result = search behind-after in
-    omega (arith, a .ensures .forward (c .before .if3 .left))
+    omega (arith, a .ensures .forward (c .before .before .if3 .left))
 
 loop-again : tie.Need-loop-again Inv-loop μ-loop
-loop-again c = search count-more
+loop-again c = search (count-more, behind-at)
 
 returns-4 : tie.Need-returns-4 Inv-loop μ-loop
 returns-4 c = search count-done
@@ -64,6 +67,7 @@ is-pattern-spec =
     returns-2
     atom-at-requires
     returns-3
+    peek-at-requires
     behind-requires
     add-n
     loop-less

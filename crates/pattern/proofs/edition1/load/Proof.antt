@@ -1,6 +1,6 @@
 use borrow.Author.Needs.{needs}
 use Rattle.pattern.proofs.Loading.{Loading, load-refused, load-start, load-end, load-last, load-lost, load-many, load-room, load-more}
-use Rattle.pattern.proofs.Elements.{behind-after, count-empty}
+use Rattle.pattern.proofs.Elements.{behind-after, behind-at, count-empty}
 use lib.ListN.{length}
 use lib.Dec.{eqb}
 use Prim.Native.Nat.{ℕ, _-_, _≤_}
@@ -82,7 +82,7 @@ mark-requires : tie.Need-mark-requires Inv-loop μ-loop
 mark-requires c κs = search needs
 
 behind-requires : tie.Need-behind-requires Inv-loop μ-loop
-behind-requires c κs = search needs
+behind-requires c κs = omega (arith, c .before .before .before .before .before .before .before .atom-at .ensures .inside)
 
 loop-less : tie.Need-loop-less Inv-loop μ-loop
 loop-less c =
@@ -94,7 +94,7 @@ loop-again : tie.Need-loop-again Inv-loop μ-loop
 loop-again c =
     let pre = c .before .before .before .before .before .before .before .before .before .before .before .before .before .before .before .before .before .before .pre in
     load-more _ _ _ _ (pre .0) (pre .1) _ _ _ _ _ (c .before .before .before .before .before .before .before .before .before .before .before .before .loop .inv) (c .before .before .before .before .before .before .before .before .before .before .before .loop-test .taken) _ (c .before .before .before .before .before .before .before .before .before .before .is-anchor .ensures) _ (c .before .before .before .before .before .before .before .before .atom-at .ensures) (c .before .before .before .before .before .before .before .before .before .if2 .left)
-    (c .before .before .before .before .before .before .before .if3 .left) (c .before .before .before .before .before .before .if4 .left) _ _ _ _ _ (c .before .before .before .set-as .ensures) (ap (λ (k : ℕ). eqb k 42) (c .before .before .before .before .before .peek-at2 .ensures)) (c .behind .ensures)
+    (c .before .before .before .before .before .before .before .if3 .left) (c .before .before .before .before .before .before .if4 .left) _ _ _ _ _ (c .before .before .before .set-as .ensures) (ap (λ (k : ℕ). eqb k 42) (c .before .before .before .before .before .peek-at2 .ensures)) (behind-at _ _ _ _ (c .before .before .before .before .before .peek-at2 .ensures) (c .behind .ensures))
     (c .before .mark .ensures) (c .before .before .before-at .ensures)
 
 shape-by-requires-2 : tie.Need-shape-by-requires-2 Inv-loop μ-loop
