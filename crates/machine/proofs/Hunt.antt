@@ -12,7 +12,7 @@ use lib.Seq.{drop-length}
 use borrow.Author.Tests.{ltb-true, ltb-false, lt-ltb, eq-eqb, ne-eqb, eqb-true, not-false}
 use Rattle.octets.specs.Bits.{bit}
 use Rattle.octets.specs.Lists.{empty}
-use Rattle.octets.proofs.Bits.{bit-zero, bit-or, bit-drop, bit-nonzero, some-bit, lowest-set, lowest-drop}
+use Rattle.octets.proofs.Bits.{bit-zero, bit-drop, lowest-set, lowest-drop, or-none-left, or-none-right}
 use Rattle.octets.proofs.Tests.{T-of, is-true, not-T-of, both, left, right, or-right, or-cases}
 use Rattle.machine.specs.Machine.{Machine, Live, live-end, live-on, Starts, starts-none, starts-live, StartsAt, Found, first-mask, last-mask, null-at, null-somewhere, in-set, met, machine-of, Stepped, Only, Shut, LastMet}
 use Rattle.machine.specs.declared.Shape.{Shape}
@@ -30,18 +30,6 @@ only-one mask p h n z e l k t =
     let rest : (bit mask k && not (eqb k p)) ≡ false =
     sym (bit-drop mask p k set) ∙ ap (λ (m : ℕ). bit m k) (sym (lowest-drop 64 mask p h n e) ∙ z) ∙ bit-zero k in
     eqb-true k p (not-false (eqb k p) (ap (λ (a : Bool). a && not (eqb k p)) (sym (is-true (bit mask k) t)) ∙ rest))
-
-or-none-left : (a b : ℕ) → bitOr a b ≡ 0 → a ≡ 0
-or-none-left a b e = go (eqb a 0) refl
-  where
-    go : (t : Bool) → eqb a 0 ≡ t → a ≡ 0
-    go true q = eqb-true a 0 q
-    go false q =
-        let k = some-bit a (λ z. absurd (true≢false (sym (eq-eqb a 0 z) ∙ q))) in
-        absurd (bit-nonzero (bitOr a b) (k .0) (bit-or a b (k .0) ∙ ap (λ (t : Bool). t || bit b (k .0)) (k .1)) e)
-
-or-none-right : (a b : ℕ) → bitOr a b ≡ 0 → b ≡ 0
-or-none-right a b e = sym (ap (λ (n : ℕ). bitOr n b) (or-none-left a b e)) ∙ e
 
 -- ---- the way down to a byte that a position meets
 

@@ -5,7 +5,7 @@ use Prim.Native.Nat.{ℕ, zero, suc, _+_, _*_, _-_, _/_, _%_, _^_, _<_, _≤_, m
 use native.Mathlib.Omega.{arith}
 use native.Mathlib.Nat.{mod-lt, mul-add-mod-self-right, mul-mod-left, mod-eq-of-lt, min-le-left, lt-of-le-of-lt, div-eq-of-lt, zero-div, pow-suc, div-self, div-one, add-comm, div-lt-iff-lt-mul, div-add-mod', le-refl, one-mul, mul-assoc, lt-of-lt-of-le, zero-add, add-zero}
 use native.Mathlib.Numerals.{add-one}
-use lib.Bits.{bitAnd, bitOr, bitXor, differ, and-step, or-step, xor-step, and-shr, or-shr, xor-shr, and-mask, and-self, and-le-r, xor-add-and, or-shifted-r}
+use lib.Bits.{bitAnd, bitOr, bitXor, differ, and-step, or-step, xor-step, and-shr, or-shr, xor-shr, and-mask, and-self, and-le-r, or-add-and, xor-add-and, or-shifted-r}
 use lib.Count.{trailingZeros, under}
 use lib.Dec.{T, T-not, eqb, ltb}
 use lib.Pow.{pow-pos, pow-lt, pow-mono, pow-add, shl-shr, shr-shr}
@@ -205,6 +205,13 @@ some-bit n z = (trailingZeros n n, lowest-set n n (lt-pow n) z)
 
 pub bit-nonzero : (n k : ℕ) → bit n k ≡ true → n ≡ 0 → ⊥
 bit-nonzero n k e q = true≢false (sym e ∙ ap (λ (x : ℕ). bit x k) q ∙ bit-zero k)
+
+-- where two numbers together have no bit, neither has one
+pub or-none-left : (a b : ℕ) → bitOr a b ≡ 0 → a ≡ 0
+or-none-left a b e = omega (arith, e, or-add-and a b, and-le-r a b)
+
+pub or-none-right : (a b : ℕ) → bitOr a b ≡ 0 → b ≡ 0
+or-none-right a b e = sym (ap (λ (n : ℕ). bitOr n b) (or-none-left a b e)) ∙ e
 
 pub bit-below : (w n k : ℕ) → n < 2 ^ w → bit n k ≡ true → k < w
 unfolding bit

@@ -19,7 +19,8 @@ use Rattle.pattern.specs.Pattern.{Elem, Pattern}
 use Rattle.pattern.specs.Prepared.{no-shape, shape-of, sets-after, befores-after, Ready}
 use Rattle.pattern.specs.Reading.{read-pattern}
 use Rattle.pattern.specs.declared.Outcome.the-variants.{No, Yes, Refuse}
-use Rattle.pattern.proofs.Agreeing.{Bytes, starts-at-agree, leftmost-agree, pattern-agrees}
+use Rattle.machine.proofs.Agreeing.{Bytes, starts-at-agree, leftmost-agree}
+use Rattle.pattern.proofs.Agreeing.{pattern-agrees}
 use Rattle.pattern.proofs.Compiled.{compiled, starts-front, front-starts}
 
 -- ---- the smallest

@@ -4,7 +4,7 @@ use Rattle.pattern.proofs.Elements.{behind-after, behind-at, count-empt
 use lib.ListN.{length}
 use lib.Dec.{eqb}
 use Prim.Native.Nat.{ℕ, _-_, _≤_}
-use mathlib.Core.Path.{refl, sym, ap, _∙_}
+use mathlib.Core.Path.{ap}
 use native.Mathlib.Omega.{arith}
 use Rattle.pattern.proofs.edition1.load.Statement.{statement}
 use Rattle.pattern.proofs.edition1.load.Tie as tie
