@@ -1,11 +1,11 @@
 -- What check and the lookups answer, from what the judging of the image kept.
-use mathlib.Core.Bool.{Bool}
+use mathlib.Core.Bool.{Bool, true, false, _&&_, true≢false}
 use mathlib.Core.Option.{Option, none, some}
 use mathlib.Core.Path.{_≡_, refl, sym, ap, ap₂, _∙_, subst}
 use Prim.Native.Nat.{ℕ, _+_, _*_, _≤_, _<_, zero-le}
 use mathlib.Core.List.{List}
 use lib.ListN.{length, getElem?}
-use borrow.Author.Tests.{eq-eqb, ne-eqb}
+use lib.Dec.{eqb}
 use Rattle.octets.specs.Lists.{pick}
 use Rattle.octets.proofs.Options.{Ok}
 use Rattle.octets.proofs.Each.{each-at}
@@ -15,7 +15,7 @@ use Rattle.profile.specs.Judging.{judge}
 use Rattle.profile.specs.Places as places
 use Rattle.profile.specs.Places.{word}
 use Rattle.profile.specs.Decoded.{layout, strings, stored-in, string-of, criterion-with, criterion-from, profile-in}
-use Rattle.lookups.specs.Lookups.{checked, check, no-part, the-part, look-at, look-judged, its-server, its-information, server, information, part-of, Checks, Serves, Informs}
+use Rattle.lookups.specs.Lookups.{checked, check, no-part, the-part, look-at, look-judged, its-server, its-information, its-part, server, information, part-of, Checks, Looks, Serves, Informs}
 use Rattle.profile.specs.Kept.{kept, judgement, Judges}
 use Rattle.profile.specs.declared.Layout.{Layout}
 use Rattle.lookups.specs.declared.Lookup.{Lookup}
@@ -59,49 +59,53 @@ module _ (part : image.Criterion → Option Stored) (s : List ℕ) (j : Judgemen
         ap (λ (y : Layout). the-part (part (criterion-from (strings s) s (y .criteria + 15 * k)))) y
         ∙ sym (look-on ∙ ap (look-at part) (spaced-at (criterion-from (strings s) s) 15 (layout s .criteria) (layout s .«criterion_count») k e))
 
+-- ---- what a criterion's part is, by the number of the string that it names
+
+abbrev named : Bool → List ℕ → ℕ → ℕ
+named b s at = pick b (word s (at + 13)) (word s (at + 10))
+
+module _ (s : List ℕ) (at i : ℕ) where
+  part-absent : (b : Bool) → i ≡ named b s at → (b && eqb i 65535) ≡ true → no-part 0 0 ≡ the-part (its-part b (criterion-from (strings s) s at))
+  unfolding criterion-from criterion-with
+  part-absent true e a = sym (ap (λ (t : Bool). the-part (pick t none (some (string-of (strings s) (word s (at + 13)))))) (ap (λ (n : ℕ). eqb n 65535) (sym e) ∙ a))
+  part-absent false e a = absurd (true≢false (sym a))
+
+  part-stored : (b : Bool) → i ≡ named b s at → (b && eqb i 65535) ≡ false
+      → the-part (some (string-of (strings s) i)) ≡ the-part (its-part b (criterion-from (strings s) s at))
+  unfolding criterion-from criterion-with
+  part-stored true e a =
+      ap (λ (n : ℕ). the-part (some (string-of (strings s) n))) e
+      ∙ sym (ap (λ (t : Bool). the-part (pick t none (some (string-of (strings s) (word s (at + 13)))))) (ap (λ (n : ℕ). eqb n 65535) (sym e) ∙ a))
+  part-stored false e a = ap (λ (n : ℕ). the-part (some (string-of (strings s) n))) e
+
 -- ---- the lookups' answers
 
-module _ (s : List ℕ) (j : Judgement) (h : Judges s j) (k : ℕ) where
-  pub server-refused : (l : Lookup) → l ≡ no-part (j .refusal) (j .place) → (j .refusal ≡ 0 → ⊥) → Serves s k l
-  unfolding server
-  server-refused l e n = record { answer = e ∙ look-refused its-server s j h k n }
-
-  pub information-refused : (l : Lookup) → l ≡ no-part (j .refusal) (j .place) → (j .refusal ≡ 0 → ⊥) → Informs s k l
-  unfolding information
-  information-refused l e n = record { answer = e ∙ look-refused its-information s j h k n }
+module _ (b : Bool) (s : List ℕ) (j : Judgement) (h : Judges s j) (k : ℕ) (l : Lookup) where
+  pub looks-refused : l ≡ no-part (j .refusal) (j .place) → (j .refusal ≡ 0 → ⊥) → Looks b s k l
+  looks-refused e n = record { answer = e ∙ look-refused (its-part b) s j h k n }
 
   module _ (z : j .refusal ≡ 0) where
-    pub server-past : (l : Lookup) → l ≡ no-part 13 0 → j .layout .«criterion_count» ≤ k → Serves s k l
-    unfolding server
-    server-past l e n = record { answer = e ∙ look-past its-server s j h k z n }
+    pub looks-past : l ≡ no-part 13 0 → j .layout .«criterion_count» ≤ k → Looks b s k l
+    looks-past e n = record { answer = e ∙ look-past (its-part b) s j h k z n }
 
-    pub information-past : (l : Lookup) → l ≡ no-part 13 0 → j .layout .«criterion_count» ≤ k → Informs s k l
-    unfolding information
-    information-past l e n = record { answer = e ∙ look-past its-information s j h k z n }
+    module _ (there : k < j .layout .«criterion_count») (i : ℕ) (e : i ≡ named b s (j .layout .criteria + 15 * k)) where
+      pub looks-absent : l ≡ no-part 0 0 → (b && eqb i 65535) ≡ true → Looks b s k l
+      looks-absent q a = record { answer = q ∙ part-absent s (j .layout .criteria + 15 * k) i b e a ∙ look-there (its-part b) s j h k z there }
 
-    module _ (there : k < j .layout .«criterion_count») (i : ℕ) (l : Lookup) where
-      pub server-there : l ≡ the-part (some (string-of (stored-in s (j .layout .strings) (j .table)) i)) → i ≡ word s (j .layout .criteria + 15 * k + 10) → Serves s k l
-      unfolding server criterion-from criterion-with
-      server-there e f = record {
-        answer = e ∙ ap₂ (λ (t : List Stored) (m : ℕ). the-part (some (string-of t m))) (strings-are s j h z) f ∙ look-there its-server s j h k z there;
-      }
-
-      pub information-none : l ≡ no-part 0 0 → i ≡ word s (j .layout .criteria + 15 * k + 13) → i ≡ 65535 → Informs s k l
-      unfolding information criterion-from criterion-with
-      information-none e f g = record {
+      pub looks-stored : l ≡ the-part (some (string-of (stored-in s (j .layout .strings) (j .table)) i)) → (b && eqb i 65535) ≡ false → Looks b s k l
+      looks-stored q a = record {
         answer =
-            e ∙ sym (ap (λ (b : Bool). the-part (pick b none (some (string-of (strings s) (word s (j .layout .criteria + 15 * k + 13)))))) (eq-eqb (word s (j .layout .criteria + 15 * k + 13)) 65535 (sym f ∙ g)))
-            ∙ look-there its-information s j h k z there;
+            q ∙ ap (λ (t : List Stored). the-part (some (string-of t i))) (strings-are s j h z)
+            ∙ part-stored s (j .layout .criteria + 15 * k) i b e a ∙ look-there (its-part b) s j h k z there;
       }
 
-      pub information-there : l ≡ the-part (some (string-of (stored-in s (j .layout .strings) (j .table)) i)) → i ≡ word s (j .layout .criteria + 15 * k + 13) → (i ≡ 65535 → ⊥) → Informs s k l
-      unfolding information criterion-from criterion-with
-      information-there e f g = record {
-        answer =
-            e ∙ ap₂ (λ (t : List Stored) (m : ℕ). the-part (some (string-of t m))) (strings-are s j h z) f
-            ∙ sym (ap (λ (b : Bool). the-part (pick b none (some (string-of (strings s) (word s (j .layout .criteria + 15 * k + 13)))))) (ne-eqb (word s (j .layout .criteria + 15 * k + 13)) 65535 (λ q. g (f ∙ q))))
-            ∙ look-there its-information s j h k z there;
-      }
+pub looks-server : (s : List ℕ) (k : ℕ) (l : Lookup) → Looks false s k l → Serves s k l
+unfolding server
+looks-server s k l a = record { answer = a .answer }
+
+pub looks-information : (s : List ℕ) (k : ℕ) (l : Lookup) → Looks true s k l → Informs s k l
+unfolding information
+looks-information s k l a = record { answer = a .answer }
 
 -- ---- what is handed back lies in the image
 

@@ -1,5 +1,5 @@
 -- What the check of an image and the lookups of a criterion's server name and service information answer.
-use mathlib.Core.Bool.{true, false}
+use mathlib.Core.Bool.{Bool, true, false}
 use mathlib.Core.Option.{Option, none, some}
 use mathlib.Core.Path.{_≡_}
 use Prim.Native.Nat.{ℕ}
@@ -51,6 +51,11 @@ its-server c = some (c .server)
 abbrev pub its-information : Criterion → Option Stored
 its-information c = c .info
 
+-- either of them
+abbrev pub its-part : Bool → Criterion → Option Stored
+its-part true = its-information
+its-part false = its-server
+
 -- "A criterion's server name"
 unfoldable pub server : List ℕ → ℕ → Lookup
 unfolding judge
@@ -70,6 +75,10 @@ part-of image l = take (l .length) (drop (l .start) image)
 -- check answers a
 pub record Checks (image : List ℕ) (a : Checked) : Type 0 where
   pub answer : a ≡ check image
+
+-- the lookup of either part of criterion i answers a
+pub record Looks (information : Bool) (image : List ℕ) (i : ℕ) (a : Lookup) : Type 0 where
+  pub answer : a ≡ look-judged (its-part information) (judge image) i
 
 -- the server lookup of criterion i answers a
 pub record Serves (image : List ℕ) (i : ℕ) (a : Lookup) : Type 0 where

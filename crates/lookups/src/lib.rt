@@ -3,9 +3,11 @@ ghost use mathlib.Core.Path.{_≡_};
 ghost use mathlib.Core.Option.{some};
 ghost use Prim.Native.Nat.{_+_, _≤_};
 ghost use lib.ListN.{length};
+ghost use Rattle.octets.specs.Lists.{pick};
 ghost use Rattle.profile.specs.Answers.{Table};
 ghost use Rattle.profile.specs.Decoded.{stored-in, string-of};
-ghost use Rattle.lookups.specs.Lookups.{no-part, the-part, part-of, server as server-of, information as information-of, Checks, Serves, Informs};
+ghost use Rattle.profile.specs.Places.{word};
+ghost use Rattle.lookups.specs.Lookups.{no-part, the-part, part-of, server as server-of, information as information-of, Checks, Looks, Serves, Informs};
 
 // What the check of an image answers: the refusal number (0 if none) and its place.
 pub struct Checked {
@@ -69,8 +71,20 @@ fn stored_part(s: &[u8], table: &[u16; 1024], n: usize, i: usize) -> Lookup
     }
 }
 
-pub fn server(image: &[u8], criterion: u32) -> Lookup
-    ensures { λ r. ⌜ Serves (now (image .entry)) criterion r ⌝ }
+// The number of the string that the criterion at a place names: its server, or its information.
+fn string_named(image: &[u8], at: usize, information: bool) -> usize
+    requires { ⌜ at + 15 ≤ length (now image) ⌝ }
+    ensures { λ r. ⌜ r ≡ pick information (word (now (image .entry)) (at + 13)) (word (now (image .entry)) (at + 10)) ⌝ }
+{
+    if information {
+        return profile::number(image, at + 13);
+    }
+    profile::number(image, at + 10)
+}
+
+// Both lookups: a criterion's information, or its server.
+fn look_up(image: &[u8], criterion: u32, information: bool) -> Lookup
+    ensures { λ r. ⌜ Looks information (now (image .entry)) criterion r ⌝ }
 {
     let j = profile::judge(image);
     if j.refusal != 0 {
@@ -81,30 +95,24 @@ pub fn server(image: &[u8], criterion: u32) -> Lookup
     if y.criterion_count <= i {
         return no_part_with(13, 0);
     }
+    let k = string_named(image, y.criteria + 15 * i, information);
+    if information & (k == 65535) {
+        return no_part_with(0, 0);
+    }
     let table = j.table;
-    let at = y.criteria + 15 * i;
-    stored_part(image, &table, y.strings, profile::number(image, at + 10))
+    stored_part(image, &table, y.strings, k)
+}
+
+pub fn server(image: &[u8], criterion: u32) -> Lookup
+    ensures { λ r. ⌜ Serves (now (image .entry)) criterion r ⌝ }
+{
+    look_up(image, criterion, false)
 }
 
 pub fn information(image: &[u8], criterion: u32) -> Lookup
     ensures { λ r. ⌜ Informs (now (image .entry)) criterion r ⌝ }
 {
-    let j = profile::judge(image);
-    if j.refusal != 0 {
-        return no_part_with(j.refusal, j.place);
-    }
-    let y = j.layout;
-    let i = criterion as usize;
-    if y.criterion_count <= i {
-        return no_part_with(13, 0);
-    }
-    let at = y.criteria + 15 * i;
-    let k = profile::number(image, at + 13);
-    if k == 65535 {
-        return no_part_with(0, 0);
-    }
-    let table = j.table;
-    stored_part(image, &table, y.strings, k)
+    look_up(image, criterion, true)
 }
 
 // A lookup's part of the image, no copy.

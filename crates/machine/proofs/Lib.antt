@@ -1,5 +1,4 @@
 pub mod Agreeing
-pub mod Choosing
 pub mod Hunt
 pub mod Places
 pub mod Scan

@@ -1,4 +1,5 @@
 pub mod Bits
+pub mod Choosing
 pub mod Classes
 pub mod Each
 pub mod Equal

@@ -1,5 +1,5 @@
 use borrow.Author.Needs.{needs}
-use Rattle.machine.proofs.Choosing.{or-first, or-second}
+use Rattle.octets.proofs.Choosing.{or-first, or-second}
 use lib.Dec.{eqb}
 use lib.Bits.{bitAnd}
 use Prim.Native.Nat.{ℕ}

@@ -1,5 +1,5 @@
 use borrow.Author.Needs.{needs}
-use Rattle.machine.proofs.Choosing.{picks-first, picks-second}
+use Rattle.octets.proofs.Choosing.{picks-first, picks-second}
 use mathlib.Core.Path.{refl, sym, _∙_}
 use Rattle.machine.proofs.end_place.Statement.{statement}
 use Rattle.machine.proofs.end_place.Tie as tie

@@ -1,5 +1,5 @@
 use borrow.Author.Needs.{needs}
-use Rattle.machine.proofs.Choosing.{picks-first, picks-second}
+use Rattle.octets.proofs.Choosing.{picks-first, picks-second}
 use mathlib.Core.Path.{refl}
 use Rattle.pattern.proofs.edition1.before_at.Statement.{statement}
 use Rattle.pattern.proofs.edition1.before_at.Tie as tie

@@ -1,5 +1,5 @@
 use borrow.Author.Needs.{needs}
-use Rattle.machine.proofs.Choosing.{picks-first}
+use Rattle.octets.proofs.Choosing.{picks-first}
 use Rattle.pattern.proofs.edition1.lead_with.Statement.{statement}
 use Rattle.pattern.proofs.edition1.lead_with.Tie as tie
 

@@ -1,5 +1,5 @@
 use borrow.Author.Needs.{needs}
-use Rattle.machine.proofs.Choosing.{picks-first, picks-second}
+use Rattle.octets.proofs.Choosing.{picks-first, picks-second}
 use lib.Bits.{or-zero-l}
 use mathlib.Core.Path.{_∙_}
 use Rattle.pattern.proofs.edition1.run_with.Statement.{statement}

@@ -1,5 +1,5 @@
 use borrow.Author.Needs.{needs}
-use Rattle.machine.proofs.Choosing.{picks-first, picks-second}
+use Rattle.octets.proofs.Choosing.{picks-first, picks-second}
 use mathlib.Core.Path.{refl}
 use Rattle.pattern.proofs.reader.behind.Statement.{statement}
 use Rattle.pattern.proofs.reader.behind.Tie as tie

@@ -1,6 +1,6 @@
 use borrow.Author.Tests.{eq-eqb, ne-eqb}
 use mathlib.Core.Path.{_∙_}
-use Rattle.machine.proofs.Choosing.{and-second, and-neither}
+use Rattle.octets.proofs.Choosing.{and-second, and-neither}
 use Rattle.pattern.proofs.Items.{class-test}
 use Rattle.pattern.proofs.reader.opens_class.Statement.{statement}
 use Rattle.pattern.proofs.reader.opens_class.Tie as tie

@@ -1,5 +1,5 @@
 use borrow.Author.Needs.{needs}
-use Rattle.machine.proofs.Choosing.{picks-first, picks-second}
+use Rattle.octets.proofs.Choosing.{picks-first, picks-second}
 use borrow.Author.Tests.{eq-eqb, ne-eqb}
 use mathlib.Core.Path.{refl, sym, _∙_}
 use Rattle.pattern.proofs.reader.start_at.Statement.{statement}
