@@ -1,4 +1,5 @@
 -- The loops over memberships, and what they say of a trigger.
+use Rattle.octets.proofs.Tests.{not-or}
 use mathlib.Core.Bool.{Bool, true, false, not, _&&_, _||_, and-false}
 use mathlib.Core.Path.{_≡_, refl, sym, ap, ap₂, _∙_, subst}
 use Prim.Native.Nat.{ℕ, suc, _+_, _-_, _*_, _/_, _^_, _≤_, _<_}
@@ -123,10 +124,6 @@ module _ {A : Type 0} (f g : A → Bool) (h : (a : A) → f a ≡ not (g a)) whe
   not-and : (a b : Bool) → not (a && b) ≡ not a || not b
   not-and true b = refl
   not-and false b = refl
-
-  not-or : (a b : Bool) → not (a || b) ≡ not a && not b
-  not-or true b = refl
-  not-or false b = refl
 
   pub some-not : (l : List A) → some-of f l ≡ not (every g l)
   some-not [] = refl

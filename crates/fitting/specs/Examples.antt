@@ -3,7 +3,7 @@ use mathlib.Core.Bool.{Bool, true, false, not}
 use Prim.Native.Nat.{ℕ}
 use mathlib.Core.List.{List, [], _∷_}
 use lib.Dec.{T, eqb}
-use Rattle.octets.specs.Lists.{every, some-of}
+use Rattle.octets.specs.Lists.{every, some-of, agree}
 use Rattle.profile.specs.Image.{Member}
 use Rattle.fitting.specs.Fitting.{by-form, part-fits}
 
@@ -16,13 +16,9 @@ pub data Example : Type 0 where
   trigger : ℕ → List Member → List ℕ → Bool → Example
   part : ℕ → ℕ → Bool → Example
 
-abbrev agrees : Bool → Bool → Bool
-agrees true b = b
-agrees false b = not b
-
 unfoldable pub right : Example → Bool
-right (trigger form ms fitting expected) = agrees expected (by-form form (λ m. some-of (eqb (m .row)) fitting) ms)
-right (part p case expected) = agrees expected (part-fits p case)
+right (trigger form ms fitting expected) = agree expected (by-form form (λ m. some-of (eqb (m .row)) fitting) ms)
+right (part p case expected) = agree expected (part-fits p case)
 
 -- rows 0 and 1 in group 3, rows 1 and 2 in group 4
 abbrev groups : List Member

@@ -1,9 +1,9 @@
 -- Lookups over worked images. One list, one claim.
-use mathlib.Core.Bool.{Bool, true, false, not, _&&_}
+use mathlib.Core.Bool.{Bool, true, false, _&&_}
 use Prim.Native.Nat.{ℕ}
 use mathlib.Core.List.{List, [], _∷_, _++_}
 use lib.Dec.{T, eqb}
-use Rattle.octets.specs.Lists.{every}
+use Rattle.octets.specs.Lists.{every, agree}
 use Rattle.profile.specs.Examples.{two, with-criteria, one-criterion}
 use Rattle.lookups.specs.Lookups.{server, information}
 use Rattle.lookups.specs.declared.Lookup.{Lookup}
@@ -14,12 +14,8 @@ pub data Example : Type 0 where
   informs : List ℕ → ℕ → Bool → ℕ → ℕ → Example
   no-such : List ℕ → ℕ → Example
 
-abbrev agrees : Bool → Bool → Bool
-agrees true b = b
-agrees false b = not b
-
 abbrev stands : Lookup → Bool → ℕ → ℕ → Bool
-stands l present start len = eqb (l .refusal) 0 && agrees present (l .present) && eqb (l .start) start && eqb (l .length) len
+stands l present start len = eqb (l .refusal) 0 && agree present (l .present) && eqb (l .start) start && eqb (l .length) len
 
 unfoldable pub right : Example → Bool
 unfolding server information

@@ -13,7 +13,7 @@ use borrow.Author.Tests.{ltb-true, ltb-false, lt-ltb, eq-eqb, ne-eqb, eqb-true, 
 use Rattle.octets.specs.Bits.{bit}
 use Rattle.octets.specs.Lists.{empty}
 use Rattle.octets.proofs.Bits.{bit-zero, bit-drop, lowest-set, lowest-drop, or-none-left, or-none-right}
-use Rattle.octets.proofs.Tests.{T-of, is-true, not-T-of, both, left, right, or-right, or-cases}
+use Rattle.octets.proofs.Tests.{T-of, is-true, not-T-of, both, left, right, or-right, or-cases, or-neither}
 use Rattle.machine.specs.Machine.{Machine, Live, live-end, live-on, Starts, starts-none, starts-live, StartsAt, Found, first-mask, last-mask, null-at, null-somewhere, in-set, met, machine-of, Stepped, Only, Shut, LastMet}
 use Rattle.machine.specs.declared.Shape.{Shape}
 use Rattle.machine.proofs.Places.{drop-at, empty-at}
@@ -127,20 +127,12 @@ module _ (h : Shape) (sets : List (List ℕ)) (before : List ℕ) where
 
       module _ (none : null-somewhere h (length text) ≡ false) where
         no-null : (a : Bool) (j : ℕ) → eqb j 0 ≡ a → j < length text → null-at h a false ≡ false
-        no-null true j e l = not-either (h .head) (h .tail) (not-either (h .head || h .tail) (h .middle && ltb 1 (length text)) none)
-          where
-            not-either : (a b : Bool) → (a || b) ≡ false → a ≡ false
-            not-either true b q = q
-            not-either false b q = refl
+        no-null true j e l = or-neither (h .head) (h .tail) (or-neither (h .head || h .tail) (h .middle && ltb 1 (length text)) none .0) .0
         no-null false j e l =
             let z : j ≡ 0 → ⊥ = λ q. absurd (true≢false (sym (eq-eqb j 0 q) ∙ e)) in
             let two : 1 < length text = omega arith in
-            and-left (h .middle) (ltb 1 (length text)) (lt-ltb 1 (length text) two) (not-second (h .head || h .tail) (h .middle && ltb 1 (length text)) none)
+            and-left (h .middle) (ltb 1 (length text)) (lt-ltb 1 (length text) two) (or-neither (h .head || h .tail) (h .middle && ltb 1 (length text)) none .1)
           where
-            not-second : (a b : Bool) → (a || b) ≡ false → b ≡ false
-            not-second true b q = absurd (true≢false q)
-            not-second false b q = q
-
             and-left : (a b : Bool) → b ≡ true → (a && b) ≡ false → a ≡ false
             and-left true b p q = absurd (true≢false (sym p ∙ q))
             and-left false b p q = refl
@@ -148,12 +140,7 @@ module _ (h : Shape) (sets : List (List ℕ)) (before : List ℕ) where
         no-end : null-at h (eqb (length text) 0) true ≡ false
         no-end =
             ap (λ (a : Bool). null-at h a true) (ne-eqb (length text) 0 some)
-            ∙ tail-no (h .head) (h .tail) (h .middle && ltb 1 (length text)) none
-          where
-            tail-no : (a b d : Bool) → ((a || b) || d) ≡ false → b ≡ false
-            tail-no true b d q = absurd (true≢false q)
-            tail-no false true d q = absurd (true≢false q)
-            tail-no false false d q = refl
+            ∙ or-neither (h .head) (h .tail) (or-neither (h .head || h .tail) (h .middle && ltb 1 (length text)) none .0) .1
 
         untested : (j live : ℕ) → j < length text → bitAnd (first-mask h (eqb j 0)) live ≡ 0 → tested h sets before text j false live ≡ false
         untested j live l z = ap₂ _||_ (no-null (eqb j 0) j refl l) (ap (λ (n : ℕ). not (eqb n 0)) z)

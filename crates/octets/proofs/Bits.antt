@@ -1,5 +1,5 @@
 -- Laws of a number's bits and of masks, for any width.
-use mathlib.Core.Path.{_≡_, refl, sym, ap, ap₂, _∙_, subst⁻¹}
+use mathlib.Core.Path.{_≡_, refl, sym, ap, ap₂, _∙_}
 use mathlib.Core.Bool.{Bool, true, false, not, _&&_, _||_, true≢false, or-true, or-false, and-true, and-false}
 use Prim.Native.Nat.{ℕ, zero, suc, _+_, _*_, _-_, _/_, _%_, _^_, _<_, _≤_, min, max}
 use native.Mathlib.Omega.{arith}
@@ -20,12 +20,6 @@ use Rattle.octets.proofs.Tests.{both, left, right, T-of, is-true}
 pub low-bit : (n k : ℕ) → eqb (bitAnd (n / 2 ^ k) 1) 1 ≡ bit n k
 unfolding bit
 low-bit n k = ap (λ (x : ℕ). eqb x 1) (and-mask (n / 2 ^ k) 1)
-
-pub bit-true : (n k : ℕ) → bitAnd (n / 2 ^ k) 1 ≡ 1 → bit n k ≡ true
-bit-true n k e = sym (low-bit n k) ∙ eq-eqb (bitAnd (n / 2 ^ k) 1) 1 e
-
-pub bit-false : (n k : ℕ) → (bitAnd (n / 2 ^ k) 1 ≡ 1 → ⊥) → bit n k ≡ false
-bit-false n k e = sym (low-bit n k) ∙ ne-eqb (bitAnd (n / 2 ^ k) 1) 1 e
 
 -- `1 << q`
 pub shl-one : (w q : ℕ) → q < w → 1 * 2 ^ q % 2 ^ w ≡ 2 ^ q
@@ -378,7 +372,3 @@ mask-add f q n m e =
       rest = λ k h.
           bit-add n q k ∙ ap (λ (x : Bool). bit n k || x) (ne-eqb k q (λ z. omega arith)) ∙ or-false (bit n k) ∙ m .rest k (omega arith);
     }
-
--- the same as code of any width writes it, `n |= 1 << q`
-pub mask-shl : (w : ℕ) (f : ℕ → Bool) (q n : ℕ) → q < w → Mask f q n → f q ≡ true → Mask f (q + 1) (bitOr n (1 * 2 ^ q % 2 ^ w))
-mask-shl w f q n h m e = subst⁻¹ (λ (x : ℕ). Mask f (q + 1) (bitOr n x)) (shl-one w q h) (mask-add f q n m e)

@@ -5,7 +5,7 @@ use mathlib.Core.List.{List, [], _∷_}
 use Prim.Native.Nat.{ℕ, _<_}
 use lib.Dec.{T, eqb, eqb→eq}
 use lib.ListN.{getD}
-use Rattle.octets.specs.Bytes.{token-byte, uri-byte, white, class-of}
+use Rattle.octets.specs.Bytes.{token-byte, uri-byte, class-of}
 use Rattle.octets.proofs.Tests.{left, right}
 use Rattle.octets.proofs.Table.{at}
 
@@ -30,36 +30,30 @@ alike false false t = refl
 pub record Rules (b x : ℕ) : Type 0 where
   pub class-is : x ≡ class-of b
   pub token-is : eqb x 1 ≡ token-byte b
-  pub white-is : eqb x 2 ≡ white b
   pub uri-is : (eqb x 1 || eqb x 3) ≡ uri-byte b
 
 -- the rules as tests
 tokens : ℕ → ℕ → Bool
 tokens b x = Bool·beq (eqb x 1) (token-byte b)
 
-spaces : ℕ → ℕ → Bool
-spaces b x = Bool·beq (eqb x 2) (white b)
-
 uris : ℕ → ℕ → Bool
 uris b x = Bool·beq (eqb x 1 || eqb x 3) (uri-byte b)
 
 ruled : ℕ → ℕ → Bool
-ruled b x = eqb x (class-of b) && (tokens b x && (spaces b x && uris b x))
+ruled b x = eqb x (class-of b) && (tokens b x && uris b x)
 
 tested : (b : ℕ) → b < 256 → T (ruled b (getD classes b 0))
-unfolding ruled tokens spaces uris
+unfolding ruled tokens uris
 tested b h = at ruled classes tt b h
 
 from : (b x : ℕ) → T (ruled b x) → Rules b x
-unfolding ruled tokens spaces uris
+unfolding ruled tokens uris
 from b x t =
-    let rest : T (tokens b x && (spaces b x && uris b x)) = right (eqb x (class-of b)) (tokens b x && (spaces b x && uris b x)) t in
-    let last : T (spaces b x && uris b x) = right (tokens b x) (spaces b x && uris b x) rest in
+    let rest : T (tokens b x && uris b x) = right (eqb x (class-of b)) (tokens b x && uris b x) t in
     record {
-      class-is = eqb→eq x (class-of b) (left (eqb x (class-of b)) (tokens b x && (spaces b x && uris b x)) t);
-      token-is = alike (eqb x 1) (token-byte b) (left (tokens b x) (spaces b x && uris b x) rest);
-      white-is = alike (eqb x 2) (white b) (left (spaces b x) (uris b x) last);
-      uri-is = alike (eqb x 1 || eqb x 3) (uri-byte b) (right (spaces b x) (uris b x) last);
+      class-is = eqb→eq x (class-of b) (left (eqb x (class-of b)) (tokens b x && uris b x) t);
+      token-is = alike (eqb x 1) (token-byte b) (left (tokens b x) (uris b x) rest);
+      uri-is = alike (eqb x 1 || eqb x 3) (uri-byte b) (right (tokens b x) (uris b x) rest);
     }
 
 pub entry : (b : ℕ) → b < 256 → Rules b (getD classes b 0)

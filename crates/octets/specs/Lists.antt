@@ -1,5 +1,5 @@
 -- Choosing by a test, tests on lists, and the bytes of a text: the words that every other definition is written in.
-use mathlib.Core.Bool.{Bool, true, false, _&&_, _||_}
+use mathlib.Core.Bool.{Bool, true, false, not, _&&_, _||_}
 use Prim.Native.Nat.{ℕ, _+_}
 use Prim.Native.Char.{code}
 use Prim.Native.String as S
@@ -16,6 +16,11 @@ text (S._∷_ c s) = code c ∷ text s
 abbrev pub pick {ℓ} : {A : Type ℓ} → Bool → A → A → A
 pick true a b = a
 pick false a b = b
+
+-- two tests with one answer
+abbrev pub agree : Bool → Bool → Bool
+agree true b = b
+agree false b = not b
 
 -- every element passes
 abbrev pub every {ℓ} : {A : Type ℓ} → (A → Bool) → List A → Bool

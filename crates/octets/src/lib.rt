@@ -1,7 +1,7 @@
 // Bytes: their classes, their case forms, and equal bytes.
 ghost use mathlib.Core.Path.{_≡_};
 ghost use lib.ListN.{getD};
-ghost use Rattle.octets.specs.Bytes.{class-of, Classes, lower, upper, same-any-case, token};
+ghost use Rattle.octets.specs.Bytes.{class-of, Classes, lower, same-any-case, token};
 ghost use Rattle.octets.specs.Lists.{same};
 
 // "a table of 256 byte classes, one for each byte" (document 01): 1 token, 2 SP or HTAB, 3 any other of 33..126, 4 128 and up, 0 the rest.
@@ -299,18 +299,6 @@ pub fn lower_of(b: u8) -> u8
         return b;
     }
     b + 32
-}
-
-pub fn upper_of(b: u8) -> u8
-    ensures { λ r. ⌜ r ≡ upper b ⌝ }
-{
-    if b < 97 {
-        return b;
-    }
-    if 122 < b {
-        return b;
-    }
-    b - 32
 }
 
 pub fn same_bytes(a: &[u8], b: &[u8]) -> bool

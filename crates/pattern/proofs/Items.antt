@@ -1,4 +1,5 @@
 -- The items of a bracket list, by place.
+use Rattle.octets.proofs.Tests.{not-or}
 use mathlib.Core.Path.{_≡_, refl, sym, ap, ap₂, _∙_, subst⁻¹}
 use mathlib.Core.Bool.{Bool, true, false, not, _&&_, _||_, true≢false, or-assoc, or-false, and-true}
 use mathlib.Core.Option.{Option, none}
@@ -151,12 +152,8 @@ module _ (s : List ℕ) (i : ℕ) (first : Bool) (h : i < length s) (next : ℕ)
         ap₂ (λ (x : Bool) (y : ℕ). x && not (eqb y 93) && not (eqb y 256)) (eq-eqb (peek rest) 45 (sym n ∙ dash))
         (ap peek (drop-drop 1 (i + 1) s ∙ ap (λ (m : ℕ). drop m s) one) ∙ sym g)
 
-    neither : (x y : Bool) → (not x && not y) ≡ not (x || y)
-    neither true y = refl
-    neither false y = refl
-
     opens-not : range-opens rest ≡ not (eqb end 93 || eqb end 256)
-    opens-not = opens-is ∙ neither (eqb end 93) (eqb end 256)
+    opens-not = opens-is ∙ sym (not-or (eqb end 93) (eqb end 256))
 
     pub item-last : not t ≡ false → (eqb end 93 || eqb end 256) ≡ true → ItemAt (item first b rest) s i (record { end = i + 1; lo = b; hi = b })
     item-last e m = alone e (opens-not ∙ ap not m)

@@ -1,6 +1,7 @@
 -- Sets of bytes as words: a byte more, a range more, all others.
+use Rattle.octets.proofs.Tests.{not-or}
 use mathlib.Core.Path.{_≡_, refl, sym, ap, ap₂, _∙_}
-use mathlib.Core.Bool.{Bool, true, false, not, _&&_, _||_, or-false, or-assoc, and-true, and-false}
+use mathlib.Core.Bool.{Bool, true, false, not, _&&_, _||_, or-false, or-assoc, and-true, and-false, or-self, and-comm}
 use mathlib.Core.List.{List, [], _∷_}
 use Prim.Native.Nat.{ℕ, zero, suc, _+_, _-_, _*_, _/_, _%_, _^_, _<_, _≤_}
 use native.Mathlib.Nat.{mod-lt, lt-of-le-of-lt}
@@ -187,10 +188,7 @@ other-words ws f e = rw e (by-words _ (λ b. not (eqb b 0) && not (f b)) refl at
         (λ k h. sym (ap (λ (x : Bool). not x && not (f (64 * i + k))) (ne-eqb (64 * i + k) 0 (λ z. n (omega arith)))))
 
     turn : (x y : Bool) → not (x || y) ≡ (not y && not x)
-    turn true true = refl
-    turn true false = refl
-    turn false true = refl
-    turn false false = refl
+    turn x y = not-or x y ∙ and-comm (not x) (not y)
 
     at : (i : ℕ) → i < 4
         → getD (bitXor (bitOr (getD (words f) 0 0) 1) all-bits ∷ bitXor (getD (words f) 1 0) all-bits ∷ bitXor (getD (words f) 2 0) all-bits ∷ bitXor (getD (words f) 3 0) all-bits ∷ []) i 0
@@ -230,11 +228,7 @@ module _ (f : ℕ → Bool) where
 
   -- a byte that is no letter, an upper and a lower letter
   plain-form : (b : ℕ) → within 65 90 b ≡ false → within 97 122 b ≡ false → f b ≡ both-forms b
-  plain-form b u l = sym (ap₂ (λ (x y : Bool). f (pick x (b + 32) b) || f (pick y (b - 32) b)) u l ∙ or-same (f b))
-    where
-      or-same : (x : Bool) → (x || x) ≡ x
-      or-same true = refl
-      or-same false = refl
+  plain-form b u l = sym (ap₂ (λ (x y : Bool). f (pick x (b + 32) b) || f (pick y (b - 32) b)) u l ∙ or-self (f b))
 
   upper-form : (b : ℕ) → within 65 90 b ≡ true → within 97 122 b ≡ false → (f (b + 32) || f b) ≡ both-forms b
   upper-form b u l = sym (ap₂ (λ (x y : Bool). f (pick x (b + 32) b) || f (pick y (b - 32) b)) u l)

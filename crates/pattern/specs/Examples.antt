@@ -5,7 +5,7 @@ use Prim.Native.Nat.{ℕ, zero, suc}
 use Prim.Native.String.{String}
 use mathlib.Core.List.{List, [], _∷_}
 use lib.Dec.{T}
-use Rattle.octets.specs.Lists.{text, every}
+use Rattle.octets.specs.Lists.{text, every, agree}
 use Rattle.pattern.specs.Answers.{was-read}
 use Rattle.pattern.specs.Pattern.{Pattern}
 use Rattle.pattern.specs.Reading.{read-pattern}
@@ -19,13 +19,9 @@ pub data Example : Type 0 where
   on : String → List ℕ → Bool → Example
   on-name : String → String → Bool → Example
 
-abbrev agrees : Bool → Bool → Bool
-agrees true b = b
-agrees false b = not b
-
 abbrev passes : (Pattern → List ℕ → Bool) → Option Pattern → List ℕ → Bool → Bool
 passes test none s expected = false
-passes test (some p) s expected = agrees expected (test p s)
+passes test (some p) s expected = agree expected (test p s)
 
 -- `^`, n times `a*`, `$`
 abbrev stars : ℕ → List ℕ
@@ -36,7 +32,7 @@ unfoldable pub right : Example → Bool
 unfolding read-pattern written-matches name-matches
 right (is-read p) = was-read (read-pattern (text p))
 right (is-refused p) = not (was-read (read-pattern (text p)))
-right (counted n expected) = agrees expected (was-read (read-pattern (94 ∷ stars n)))
+right (counted n expected) = agree expected (was-read (read-pattern (94 ∷ stars n)))
 right (on p s expected) = passes written-matches (read-pattern (text p)) s expected
 right (on-name p s expected) = passes name-matches (read-pattern (text p)) (text s) expected
 

@@ -5,7 +5,7 @@ use native.Mathlib.Nat.{sub-zero}
 use native.Mathlib.Numerals.{add-one}
 use native.Mathlib.Decide.{ℕ-discrete}
 use mathlib.Core.Path.{_≡_, refl, sym, ap, _∙_}
-use mathlib.Core.Bool.{Bool, true, false, _||_, or-false}
+use mathlib.Core.Bool.{Bool, true, false, _||_, or-false, or-true}
 use mathlib.Core.List.{List, [], _∷_, _++_}
 use lib.ListN.{length}
 use lib.Dec.{leb, eqb}
@@ -63,10 +63,6 @@ earlier-not s start p i v e h n = rw (add-one i, e, ← h, ne-eqb v p n)
 
 pub earlier-all : (s : List ℕ) (start p i j : ℕ) → earlier s start i p ≡ false → i ≤ j → j ≤ i → earlier s start j p ≡ false
 earlier-all s start p i j e h k = let z : j ≡ i = omega arith in rw z e
-
-or-true : (b : Bool) → (b || true) ≡ true
-or-true true = refl
-or-true false = refl
 
 pub earlier-found : (s : List ℕ) (start p i v j : ℕ) → i < j → v ≡ long s (start + 15 * i) → v ≡ p → earlier s start j p ≡ true
 unfolding earlier

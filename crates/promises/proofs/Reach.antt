@@ -1,4 +1,5 @@
 -- Number 10 is exactly "a record that no session can have": the records that pass are those that some calls lead to.
+use borrow.Author.Tests.{ne-eqb}
 use mathlib.Core.Bool.{Bool, true, false, not, _&&_, _||_}
 use mathlib.Core.Option.{none, some}
 use mathlib.Core.Path.{_≡_, refl, sym, ap, ap₂, subst, subst₂}
@@ -8,7 +9,7 @@ use native.Mathlib.Omega.{arith}
 use mathlib.Core.List.{List, [], _∷_}
 use lib.Dec.{T, leb, ltb, eqb, leb→le, ltb→lt, lt→ltb, eqb→eq}
 use Rattle.octets.specs.Lists.{text, pick}
-use Rattle.octets.proofs.Tests.{both, left, right, or-cases, T-of, is-true, differ}
+use Rattle.octets.proofs.Tests.{both, left, right, or-cases, T-of, is-true}
 use Rattle.profile.specs.Image.{Profile, accepted}
 use Rattle.profile.specs.Judging.{judge}
 use Rattle.profile.specs.Examples.{empty-profile}
@@ -193,7 +194,7 @@ no-more k s f l h t =
     let x : Session = make k s (suc (suc f)) l h in
     right (leb k 3) false
     (subst₂ (λ (a b : Bool). T (leb k 3 && pick a (nothing-yet x) (b && some-yet x)))
-    (differ (suc (suc f)) 0 (λ e. omega arith)) (differ (suc (suc f)) 1 (λ e. omega arith)) t)
+    (ne-eqb (suc (suc f)) 0 (λ e. omega arith)) (ne-eqb (suc (suc f)) 1 (λ e. omega arith)) t)
 
 possible-reached : (k s f l h : ℕ) → T (possible (make k s f l h)) → Reached (make k s f l h)
 possible-reached k s zero l h t = none-forwarded k s l h t

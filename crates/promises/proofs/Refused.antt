@@ -1,4 +1,5 @@
 -- Demand 1: each refusal is that of the first line that holds, and a refusal changes nothing.
+use borrow.Author.Tests.{ne-eqb}
 use mathlib.Core.Bool.{Bool, true, false, not, _&&_}
 use mathlib.Core.Option.{Option, none, some}
 use mathlib.Core.Path.{_≡_, refl, sym, subst}
@@ -6,9 +7,9 @@ use Prim.Native.Nat.{ℕ, zero, suc, _≤_, _<_}
 use native.Mathlib.Omega.{arith}
 use mathlib.Core.List.{List, [], _∷_}
 use lib.ListN.{length, getElem?}
-use lib.Dec.{T, leb, eqb, not-T, leb→le}
+use lib.Dec.{T, leb, eqb, not-T, leb→le, T-not}
 use Rattle.octets.specs.Lists.{pick, same, total}
-use Rattle.octets.proofs.Tests.{differ, is-false, T-of}
+use Rattle.octets.proofs.Tests.{is-false, T-of}
 use Rattle.profile.specs.Image.{Stored, Criterion, Profile, Judged, accepted, refused}
 use Rattle.profile.specs.Judging.{judge}
 use Rattle.lookups.specs.Lookups.{checked, check, the-part, look-at, look-judged, its-server, its-information, server, information}
@@ -41,16 +42,12 @@ first-is (l ∷ ls) = go (l .holds) refl (first-is ls)
     go true e f = this-one (T-of e)
     go false e f = a-later-one (subst (λ (b : Bool). T (not b)) (sym e) tt) f
 
-never : (b : Bool) → T b → T (not b) → ⊥
-never true t u = u
-never false t u = t
-
 -- no other is
 pub first-one : {ls : List Line} {r s : Refusal} → First ls r → First ls s → r ≡ s
 first-one none-holds none-holds = refl
 first-one (this-one t) (this-one u) = refl
-first-one (this-one {l = l} t) (a-later-one u f) = absurd (never (l .holds) t u)
-first-one (a-later-one {l = l} u f) (this-one t) = absurd (never (l .holds) t u)
+first-one (this-one {l = l} t) (a-later-one u f) = absurd (T-not (l .holds) u t)
+first-one (a-later-one {l = l} u f) (this-one t) = absurd (T-not (l .holds) u t)
 first-one (a-later-one u f) (a-later-one v g) = first-one f g
 
 as-first : (ls : List Line) (r : Refusal) → r ≡ first-of ls → First ls r
@@ -138,7 +135,7 @@ after-refusal (suc zero) x = refl
 after-refusal (suc (suc zero)) x = refl
 after-refusal (suc (suc (suc n))) x =
     let m : ℕ = suc (suc (suc n)) in
-    simp (differ m 0 (λ e. omega arith), differ m 1 (λ e. omega arith), differ m 2 (λ e. omega arith), lt-leb m (omega arith))
+    simp (ne-eqb m 0 (λ e. omega arith), ne-eqb m 1 (λ e. omega arith), ne-eqb m 2 (λ e. omega arith), lt-leb m (omega arith))
   where
     lt-leb : (m : ℕ) → 2 < m → leb m 2 ≡ false
     lt-leb m h = is-false (leb m 2) (not-T (leb m 2) (λ t. let k : m ≤ 2 = leb→le m 2 t in omega arith))

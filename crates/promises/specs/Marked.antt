@@ -1,11 +1,11 @@
 -- "Marked for proof, as a single list with one claim about all of it". The triggers go through whole images and requests.
-use mathlib.Core.Bool.{Bool, true, false, not}
+use mathlib.Core.Bool.{Bool, true, false}
 use mathlib.Core.Option.{Option, none, some}
 use Prim.Native.Nat.{ℕ}
 use Prim.Native.String.{String}
 use mathlib.Core.List.{List, [], _∷_, _++_}
 use lib.Dec.{T, eqb}
-use Rattle.octets.specs.Lists.{text, every}
+use Rattle.octets.specs.Lists.{text, every, agree}
 use Rattle.pattern.specs.Pattern.{Pattern}
 use Rattle.pattern.specs.Reading.{read-pattern}
 use Rattle.pattern.specs.Matching.{written-matches}
@@ -46,13 +46,9 @@ pub data Example : Type 0 where
   pattern-refused : String → Example
   forwards : List ℕ → String → Bool → Example
 
-abbrev agrees : Bool → Bool → Bool
-agrees true b = b
-agrees false b = not b
-
 abbrev on-text : Option Pattern → List ℕ → Bool → Bool
 on-text none s expected = false
-on-text (some p) s expected = agrees expected (written-matches p s)
+on-text (some p) s expected = agree expected (written-matches p s)
 
 abbrev missing : Option Pattern → Bool
 missing none = true

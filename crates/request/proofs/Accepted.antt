@@ -1,6 +1,6 @@
 -- What a request is that was judged readable: its parts by the places found.
 use mathlib.Core.Bool.{Bool, true, false}
-use mathlib.Core.Option.{Option, none, some}
+use mathlib.Core.Option.{Option, none, some, Option·some-injective}
 use mathlib.Core.Path.{_≡_, refl, sym, ap, _∙_, subst}
 use mathlib.Core.List.{List, [], _∷_}
 use Prim.Native.Nat.{ℕ, _+_, _-_, _≤_, _<_}
@@ -25,7 +25,6 @@ use Rattle.request.proofs.Head.{Pairs, pairs, pairs-paired}
 use Rattle.request.proofs.Judging.{Starts, starts, cr, built, head-built, judge-long, judge-endless, judge-bytes, read-by-test, head-is-front}
 use Rattle.request.proofs.Parts.{part-front, length-part}
 use Rattle.request.proofs.Search.{first-le, first-holds, begins-long, head-end}
-use Rattle.request.proofs.Somes.{some-is}
 use Rattle.request.proofs.StartParts.{started, start-no-sp, start-one-sp, start-wrong, start-whole}
 
 -- ---- the start line
@@ -72,7 +71,7 @@ start-some l t e =
                 let at-r = start-whole l m em more u refl further r refl in
                 test-cases r
                 (λ y. starts-at l m u t (omega arith) further
-                (some-is (record { method = take m l; uri = part l (m + 1) u }) t (sym (at-r ∙ ap (started (take m l) (part l (m + 1) u)) y) ∙ e)))
+                (Option·some-injective (record { method = take m l; uri = part l (m + 1) u }) t (sym (at-r ∙ ap (started (take m l) (part l (m + 1) u)) y) ∙ e)))
                 (λ n. absurd (not-bad (start-line l) t e (start-wrong l m em more u refl further r refl n)))
           ]
     ]

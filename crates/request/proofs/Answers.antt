@@ -1,5 +1,5 @@
 -- What `read` answers and leaves in the lent places.
-use mathlib.Core.Option.{Option, none, some}
+use mathlib.Core.Option.{Option, none, some, Option·some-injective}
 use mathlib.Core.Path.{_≡_, refl, sym, ap, _∙_, subst}
 use mathlib.Core.List.{List, [], _∷_, _++_}
 use Prim.Native.Nat.{ℕ, suc, _+_, _-_, _≤_}
@@ -18,7 +18,6 @@ use Rattle.request.specs.declared.Reading.the-variants.{Unreadable, Read
 use Rattle.request.proofs.Accepted.{Accepts, accepts}
 use Rattle.request.proofs.Judging.{all-fields-some}
 use Rattle.request.proofs.Parts.{length-part}
-use Rattle.request.proofs.Somes.{some-is}
 
 -- ---- as many fields as lines
 
@@ -27,11 +26,11 @@ module _ (n : ℕ) where
       → ((gs : List Field) → p ≡ some gs → length gs ≡ n) → (o >>= λ f. p >>= λ l. some (f ∷ l)) ≡ some fs → length fs ≡ suc n
   count-step none p fs h e = let z : _≡_ {A = ℕ} 0 1 = cc in absurd (omega arith)
   count-step (some f) none fs h e = let z : _≡_ {A = ℕ} 0 1 = cc in absurd (omega arith)
-  count-step (some f) (some l) fs h e = ap length (some-is fs (f ∷ l) (sym e)) ∙ ap suc (h l refl)
+  count-step (some f) (some l) fs h e = ap length (Option·some-injective fs (f ∷ l) (sym e)) ∙ ap suc (h l refl)
 
 pub fields-count : (ls : List (List ℕ)) (fs : List Field) → all-fields ls ≡ some fs → length fs ≡ length ls
 unfolding all-fields
-fields-count [] fs e = ap length (some-is fs [] (sym e))
+fields-count [] fs e = ap length (Option·some-injective fs [] (sym e))
 fields-count (l ∷ ls) fs e = count-step (length ls) (field l) (all-fields ls) fs (fields-count ls) e
 
 pub starts-length : (at : ℕ) (ls : List (List ℕ)) → length (line-starts at ls) ≡ length ls

@@ -1,5 +1,5 @@
 -- The fields of a request with their values are no more than the bytes of its head.
-use mathlib.Core.Option.{some}
+use mathlib.Core.Option.{some, Option·some-injective}
 use mathlib.Core.Path.{_≡_, refl, sym, ap, subst}
 use mathlib.Core.List.{List, [], _∷_}
 use Prim.Native.Nat.{ℕ, zero, suc, _+_, _≤_, _<_, zero-le, suc-le-suc}
@@ -22,7 +22,6 @@ use Rattle.request.proofs.Norm.{reduced-le}
 use Rattle.request.proofs.Nth.{cons, field-is, colon-in-line, name-token, token-long}
 use Rattle.request.proofs.Parts.{length-part}
 use Rattle.request.proofs.Small.{values-length}
-use Rattle.request.proofs.Somes.{some-is}
 use Rattle.request.proofs.Trims.{trim-le}
 
 -- ---- fields with their values
@@ -50,7 +49,7 @@ field-few l f e =
 
 fields-few : (ls : List (List ℕ)) (fs : List Field) → all-fields ls ≡ some fs → total weight fs ≤ total length ls
 unfolding all-fields
-fields-few [] fs e = subst (λ (gs : List Field). total weight gs ≤ 0) (some-is [] fs e) zero-le
+fields-few [] fs e = subst (λ (gs : List Field). total weight gs ≤ 0) (Option·some-injective [] fs e) zero-le
 fields-few (l ∷ ls) fs e =
     let k = cons l ls fs e in
     let here : weight (k .one) ≤ length l = field-few l (k .one) (k .one-is) in

@@ -1,6 +1,6 @@
 -- One field of a request, from the lent places.
 use mathlib.Core.Bool.{true, not}
-use mathlib.Core.Option.{Option, none, some}
+use mathlib.Core.Option.{Option, none, some, Option·some-injective}
 use mathlib.Core.Path.{_≡_, refl, sym, ap, _∙_, subst}
 use mathlib.Core.List.{List, [], _∷_}
 use Prim.Native.Nat.{ℕ, zero, suc, _+_, _-_, _*_, _≤_, _<_}
@@ -30,7 +30,6 @@ use Rattle.request.proofs.Lines.{line-here, line-next, line-past}
 use Rattle.request.proofs.Nth.{Nth, nth, field-is, name-token, colon-in-line, token-long}
 use Rattle.request.proofs.Parts.{drop-take, length-part, part-front}
 use Rattle.request.proofs.Search.{first-le, first-holds, begins-long, before-length}
-use Rattle.request.proofs.Somes.{some-is}
 use Rattle.request.proofs.Trims.{trim-le, trim-front}
 
 -- ---- the end of a field's line
@@ -377,7 +376,7 @@ module _ (s starts colons : List ℕ) (head fields i : ℕ) (x : Indexed s start
 
   pub field-says : (q : Request) → read-request s ≡ some q → FieldSays s q head i (field-parts (head-of s) i)
   field-says q e =
-      let same : a .request ≡ q = some-is (a .request) q (sym (a .read) ∙ e) in
+      let same : a .request ≡ q = Option·some-injective (a .request) q (sym (a .read) ∙ e) in
       subst (λ (r : FieldParts). FieldSays s q head i r) (sym parts-so) (subst (λ (y : Request). FieldSays s y head i (parts-of at l)) same says)
 
 -- what `read` wrote

@@ -16,7 +16,6 @@ pub mod Nth
 pub mod Parts
 pub mod Search
 pub mod Small
-pub mod Somes
 pub mod StartParts
 pub mod Trims
 pub mod Values

@@ -12,7 +12,7 @@ use lib.Dec.{eqb, ltb}
 use borrow.Author.Tests.{eqb-true, lt-ltb}
 use Rattle.octets.specs.Bytes.{white}
 use Rattle.octets.specs.Lists.{pick, some-of, empty, peek}
-use Rattle.octets.proofs.Tests.{test-cases}
+use Rattle.octets.proofs.Tests.{test-cases, or-neither}
 use Rattle.request.specs.Places.{over}
 use Rattle.request.specs.Searching.{space}
 use Rattle.request.specs.Values.{trim-left, trim-right, spaces, squeeze, reduced}
@@ -39,10 +39,6 @@ is-spaced b e =
     (λ y. ap (λ (t : Bool). pick t 32 b) y)
     (λ n. ap (λ (t : Bool). pick t 32 b) n ∙ eqb-true b 32 (sym (or-false (eqb b 32)) ∙ ap (λ (t : Bool). eqb b 32 || t) (sym n) ∙ e))
 
-or-no : (a b : Bool) → (a || b) ≡ false → (a ≡ false) × (b ≡ false)
-or-no true b e = (e, absurd (let z : _≡_ {A = ℕ} 0 1 = cc in omega arith))
-or-no false b e = (refl, e)
-
 -- a byte that stays
 record Stays (b : ℕ) : Type 0 where
   kept : spaced b ≡ b
@@ -51,11 +47,11 @@ record Stays (b : ℕ) : Type 0 where
 
 stays : (b : ℕ) → space b ≡ false → Stays b
 stays b e =
-    let k = or-no (eqb b 32) (some-of (eqb b) (9 ∷ 10 ∷ 13 ∷ [])) e in
+    let k = or-neither (eqb b 32) (some-of (eqb b) (9 ∷ 10 ∷ 13 ∷ [])) e in
     record {
       kept = ap (λ (t : Bool). pick t 32 b) (k .1);
       no-sp = k .0;
-      not-white = rw (k .0, or-no (eqb b 9) (eqb b 10 || (eqb b 13 || false)) (k .1) .0);
+      not-white = rw (k .0, or-neither (eqb b 9) (eqb b 10 || (eqb b 13 || false)) (k .1) .0);
     }
 
 -- ---- the pass

@@ -1,6 +1,6 @@
 -- The field of one line among all.
 use mathlib.Core.Bool.{Bool, true, false}
-use mathlib.Core.Option.{Option, none, some}
+use mathlib.Core.Option.{Option, none, some, Option·some-injective}
 use mathlib.Core.Path.{_≡_, refl, sym, ap, _∙_, subst}
 use mathlib.Core.List.{List, [], _∷_}
 use Prim.Native.Nat.{ℕ, zero, suc, _+_, _<_}
@@ -20,7 +20,6 @@ use Rattle.request.specs.Values.{trim-right}
 use Rattle.request.proofs.Fields.{field-at, field-named}
 use Rattle.request.proofs.Filling.{colon-inside, name-there}
 use Rattle.request.proofs.Search.{before-length}
-use Rattle.request.proofs.Somes.{some-is}
 
 -- ---- the fields of the lines
 
@@ -36,7 +35,7 @@ cons-by : (l : List ℕ) (ls : List (List ℕ)) (fs : List Field) (o : Option Fi
     → field l ≡ o → all-fields ls ≡ p → (o >>= λ f. p >>= λ gs. some (f ∷ gs)) ≡ some fs → Cons l ls fs
 cons-by l ls fs none p eo ep e = let z : _≡_ {A = ℕ} 0 1 = cc in absurd (omega arith)
 cons-by l ls fs (some f) none eo ep e = let z : _≡_ {A = ℕ} 0 1 = cc in absurd (omega arith)
-cons-by l ls fs (some f) (some gs) eo ep e = record { one = f; one-is = eo; others = gs; others-are = ep; all-are = some-is fs (f ∷ gs) (sym e) }
+cons-by l ls fs (some f) (some gs) eo ep e = record { one = f; one-is = eo; others = gs; others-are = ep; all-are = Option·some-injective fs (f ∷ gs) (sym e) }
 
 pub cons : (l : List ℕ) (ls : List (List ℕ)) (fs : List Field) → all-fields (l ∷ ls) ≡ some fs → Cons l ls fs
 unfolding all-fields

@@ -1,11 +1,11 @@
 -- Readable requests (document 01, "Readable requests"): what is read from a request's bytes, or none where it is unreadable.
-use mathlib.Core.Bool.{Bool, true, false, not, _&&_, _||_}
+use mathlib.Core.Bool.{Bool, false, not, _&&_, _||_}
 use mathlib.Core.Option.{Option, none, some}
 use Prim.Native.Nat.{ℕ}
 use mathlib.Core.List.{List, [], _∷_, _++_}
 use lib.ListN.{length}
 use lib.Dec.{leb, eqb}
-use Rattle.octets.specs.Lists.{text, every, some-of, only, empty, pick, peek}
+use Rattle.octets.specs.Lists.{text, every, some-of, only, empty, pick, peek, agree}
 use Rattle.octets.specs.Option.{_>>=_, holds}
 use Rattle.octets.specs.Bytes.{within, same-any-case, token, white, uri-byte}
 use Rattle.request.specs.Cutting.{first-cut, cut-by, cut-at}
@@ -24,11 +24,6 @@ pub record Request : Type 0 where
   pub body : List ℕ
 
 -- ---- the head
-
--- "In the head, CR and LF stand only as pairs": a byte is LF exactly where the one before it is CR
-abbrev pub agree : Bool → Bool → Bool
-agree true b = b
-agree false b = not b
 
 -- the byte before, and the rest
 unfoldable pub paired : ℕ → List ℕ → Bool

@@ -1,5 +1,5 @@
 -- What the places of a readable request say of its fields, and the loop over them.
-use mathlib.Core.Option.{some}
+use mathlib.Core.Option.{some, Option·some-injective}
 use mathlib.Core.Path.{_≡_, sym, ap, _∙_, subst}
 use mathlib.Core.List.{List, []}
 use Prim.Native.Nat.{ℕ, _+_, _-_, _≤_, _<_}
@@ -16,7 +16,6 @@ use Rattle.request.proofs.Accepted.{Accepts}
 use Rattle.request.proofs.Few.{weight, request-few}
 use Rattle.request.proofs.Indexing.{FieldSays, accepted-by, readable-count, few, field-says, indexed}
 use Rattle.request.proofs.Parts.{length-part}
-use Rattle.request.proofs.Somes.{some-is}
 use Rattle.request_parts.specs.Parts.{values-in, counted, parts, Placed}
 
 -- the fields before i are counted
@@ -105,7 +104,7 @@ module _ (s starts colons : List ℕ) (head fields : ℕ) (k : Placed s starts c
         pub fielding-next : Fielding s (i + 1) (n + r)
         fielding-next = record {
           sum = λ x e.
-              let same : q ≡ x = some-is q x (sym (a .read) ∙ e) in
+              let same : q ≡ x = Option·some-injective q x (sym (a .read) ∙ e) in
               subst (λ (y : Request). n + r + total values-in (drop (i + 1) (y .fields)) ≡ total values-in (y .fields)) same at-next;
         }
 

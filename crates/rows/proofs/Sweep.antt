@@ -1,5 +1,5 @@
 -- A loop over a list that asks whether some element passes, and sums: what remains, always.
-use mathlib.Core.Bool.{Bool, true, false, _||_, or-false}
+use mathlib.Core.Bool.{Bool, false, _||_, or-false, or-assoc}
 use mathlib.Core.Path.{_≡_, refl, sym, ap, ap₂, _∙_}
 use Prim.Native.Nat.{ℕ, _+_}
 use native.Mathlib.Nat.{zero-add, add-zero, add-assoc}
@@ -11,10 +11,6 @@ pub record Swept {A : Type 0} (f : A → Bool) (g : A → ℕ) (rest : List A) (
   pub fit : (fits || some-of f rest) ≡ whole .fits
   pub tried : trials + total g rest ≡ whole .trials
 
-or-then : (a b c : Bool) → ((a || b) || c) ≡ (a || (b || c))
-or-then true b c = refl
-or-then false b c = refl
-
 module _ {A : Type 0} (f : A → Bool) (g : A → ℕ) where
   pub swept-first : (l : List A) → Swept f g l false 0 (record { fits = some-of f l; trials = total g l })
   swept-first l = record { fit = refl; tried = zero-add (total g l) }
@@ -22,7 +18,7 @@ module _ {A : Type 0} (f : A → Bool) (g : A → ℕ) where
   module _ (rest : List A) (fits : Bool) (trials : ℕ) (whole : Verdict) (w : Swept f g rest fits trials whole) where
     pub swept-next : (a : A) (later : List A) (m : Bool) (k : ℕ) → rest ≡ a ∷ later → m ≡ f a → k ≡ g a → Swept f g later (fits || m) (trials + k) whole
     swept-next a later m k e em ek = record {
-      fit = ap (λ (b : Bool). (fits || b) || some-of f later) em ∙ or-then fits (f a) (some-of f later) ∙ sym (ap (λ (l : List A). fits || some-of f l) e) ∙ w .fit;
+      fit = ap (λ (b : Bool). (fits || b) || some-of f later) em ∙ or-assoc fits (f a) (some-of f later) ∙ sym (ap (λ (l : List A). fits || some-of f l) e) ∙ w .fit;
       tried = ap (λ (j : ℕ). trials + j + total g later) ek ∙ add-assoc trials (g a) (total g later) ∙ sym (ap (λ (l : List A). trials + total g l) e) ∙ w .tried;
     }
 

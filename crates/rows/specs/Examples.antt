@@ -5,7 +5,7 @@ use Prim.Native.Nat.{ℕ}
 use Prim.Native.String.{String}
 use mathlib.Core.List.{List, [], _∷_}
 use lib.Dec.{T, eqb}
-use Rattle.octets.specs.Lists.{text, every}
+use Rattle.octets.specs.Lists.{text, every, agree}
 use Rattle.pattern.specs.Pattern.{Pattern}
 use Rattle.pattern.specs.Reading.{read-pattern}
 use Rattle.profile.specs.Image.{Test, request-uri, method, header, session-case, description, Row}
@@ -49,10 +49,6 @@ pub record Example : Type 0 where
   pub fits : Bool
   pub trials : ℕ
 
-abbrev agrees : Bool → Bool → Bool
-agrees true b = b
-agrees false b = not b
-
 abbrev given : Given
 given = record { case = 1; registration = 1 }
 
@@ -61,7 +57,7 @@ on none q x = false
 on (some t) none x = false
 on (some t) (some q) x =
     let r : Row = record { place = 0; negated = x .negated; test = t } in
-    agrees (x .fits) (row-fits q given r) && eqb (row-trials q r) (x .trials)
+    agree (x .fits) (row-fits q given r) && eqb (row-trials q r) (x .trials)
 
 unfoldable pub right : Example → Bool
 unfolding as-test read-request row-fits row-trials
