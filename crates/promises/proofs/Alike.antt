@@ -10,8 +10,9 @@ use Rattle.octets.specs.Lists.{pick, some-of, total, same}
 use Rattle.octets.proofs.Tests.{T-of, test-cases, or-left, or-right}
 use Rattle.pattern.specs.Pattern.{Pattern}
 use Rattle.pattern.specs.Matching.{name-matches}
-use Rattle.profile.specs.Image.{Test, request-uri, method, header, session-case, description, Row, Member, Criterion, Profile, Judged}
-use Rattle.request.specs.Request.{Request, Field}
+use Rattle.profile.specs.Image.{Test, request-uri, method, header, session-case, description, Row, Member, Criterion, Profile, Judged, accepted, refused}
+use Rattle.profile.specs.Judging.{judge}
+use Rattle.request.specs.Request.{Request, Field, read-request}
 use Rattle.request.specs.Body.{session-lines, request-lines}
 use Rattle.session.specs.Session.{possible, ready}
 use Rattle.session.specs.declared.Session.{Session}
@@ -20,7 +21,7 @@ use Rattle.fitting.specs.Fitting.{memberships, fits-at, by-form, trigger-fits, 
 use Rattle.route.specs.Advance.{refuse, walk, walk-with, in-session, advance-read, advance-judged, advance}
 use Rattle.listing.specs.Listing.{Listing, refuse-list, fill, fill-with, list-read, list-judged, listing}
 use Rattle.route.specs.declared.Advanced.{Advanced}
-use Rattle.promises.specs.Agreement.{header-meets, describes, any-header, any-description, AgreeFields, none-left, field-and, Agree}
+use Rattle.promises.specs.Agreement.{header-meets, describes, any-header, any-description, AgreeFields, none-left, field-and, Agree, MayDiffer, agreeing, no-profile, no-requests}
 use Rattle.promises.proofs.StartLine.{start-same}
 
 -- ---- what must agree, of the requests as they are read
@@ -172,9 +173,9 @@ module _ (image a b : List ℕ) (h : Agree image a b) where
       let s = start-same a b (h .q) (h .r) (h .reads-q) (h .reads-r) (h .same-start-line) in
       record { same-method = s .0; same-uri = s .1; same-fields = h .same-fields; same-body = h .same-body }
 
-  pub advance-same : (x : Session) → advance x image a ≡ advance x image b
+  advance-agrees : (x : Session) → advance x image a ≡ advance x image b
   unfolding advance
-  advance-same x =
+  advance-agrees x =
       ap (λ (w : Advanced). pick (possible x && eqb (x .state) ready) w (refuse x 10 0))
       (ap (λ (j : Judged). advance-judged x j a) (h .accepts)
       ∙ ap (advance-read x (h .profile)) (h .reads-q)
@@ -182,11 +183,34 @@ module _ (image a b : List ℕ) (h : Agree image a b) where
       ∙ sym (ap (advance-read x (h .profile)) (h .reads-r))
       ∙ sym (ap (λ (j : Judged). advance-judged x j b) (h .accepts)))
 
-  pub listing-same : (g : Given) (places : List ℕ) → listing g image a places ≡ listing g image b places
+  listing-agrees : (g : Given) (places : List ℕ) → listing g image a places ≡ listing g image b places
   unfolding listing
-  listing-same g places =
+  listing-agrees g places =
       ap (λ (j : Judged). list-judged g j a places) (h .accepts)
       ∙ ap (λ (o : Option Request). list-read g (h .profile) o places) (h .reads-q)
       ∙ list-read-alike (h .q) (h .r) g (h .profile) places alike
       ∙ sym (ap (λ (o : Option Request). list-read g (h .profile) o places) (h .reads-r))
       ∙ sym (ap (λ (j : Judged). list-judged g j b places) (h .accepts))
+
+-- requests that read alike, both unreadable among them
+advance-by : (x : Session) (j : Judged) (a b : List ℕ) → read-request a ≡ read-request b → advance-judged x j a ≡ advance-judged x j b
+advance-by x (accepted p) a b e = ap (advance-read x p) e
+advance-by x (refused n place) a b e = refl
+
+list-by : (g : Given) (j : Judged) (a b places : List ℕ) → read-request a ≡ read-request b → list-judged g j a places ≡ list-judged g j b places
+list-by g (accepted p) a b places e = ap (λ (o : Option Request). list-read g p o places) e
+list-by g (refused n place) a b places e = refl
+
+pub advance-same : (image a b : List ℕ) → MayDiffer image a b → (x : Session) → advance x image a ≡ advance x image b
+unfolding advance
+advance-same image a b (agreeing h) x = advance-agrees image a b h x
+advance-same image a b (no-profile {n = n} {place = place} e) x =
+    ap (λ (w : Advanced). pick (possible x && eqb (x .state) ready) w (refuse x 10 0))
+    (ap (λ (j : Judged). advance-judged x j a) e ∙ sym (ap (λ (j : Judged). advance-judged x j b) e))
+advance-same image a b (no-requests e f) x = ap (λ (w : Advanced). pick (possible x && eqb (x .state) ready) w (refuse x 10 0)) (advance-by x (judge image) a b (e ∙ sym f))
+
+pub listing-same : (image a b : List ℕ) → MayDiffer image a b → (g : Given) (places : List ℕ) → listing g image a places ≡ listing g image b places
+unfolding listing
+listing-same image a b (agreeing h) g places = listing-agrees image a b h g places
+listing-same image a b (no-profile {n = n} {place = place} e) g places = ap (λ (j : Judged). list-judged g j a places) e ∙ sym (ap (λ (j : Judged). list-judged g j b places) e)
+listing-same image a b (no-requests e f) g places = list-by g (judge image) a b places (e ∙ sym f)

@@ -1,7 +1,7 @@
 -- "over one image of n criteria a session forwards at most n times"
 use mathlib.Core.Bool.{_&&_, _||_}
 use mathlib.Core.Option.{Option, none, some}
-use mathlib.Core.Path.{_≡_, refl, sym, ap₂, subst}
+use mathlib.Core.Path.{_≡_, ap, refl, sym, ap₂, subst}
 use Prim.Native.Nat.{ℕ, _+_, _≤_, _<_, zero-le}
 use native.Mathlib.Nat.{le-trans, le-of-eq, lt-irrefl}
 use native.Mathlib.Omega.{arith}
@@ -55,12 +55,12 @@ forward-fewer x p q n c =
 answer-shrinks : (x : Session) (p : Profile) (q : Request) (a : Advanced) → Answered x p q a → Shrinks x p a
 answer-shrinks x p q a (forwarding f) =
     subst (λ (k : ℕ). one-if (a .outcome) + k ≤ left-over (x .forwarded) (x .last) p)
-    (ap₂ (λ (u v : ℕ). left-over u v p) (sym (f .forwarded)) (sym (f .last)))
+    (ap₂ (λ (u v : ℕ). left-over u v p) (sym (ap (λ (y : Session). y .forwarded) (f .session))) (sym (ap (λ (y : Session). y .last) (f .session))))
     (subst (λ (k : ℕ). one-if k + left-over 1 (priority (f .chosen-one)) p ≤ left-over (x .forwarded) (x .last) p) (sym (f .outcome))
     (omega (arith, forward-fewer x p q (f .chosen-one) (f .candidate))))
 answer-shrinks x p q a (routing r) =
     subst (λ (k : ℕ). one-if (a .outcome) + k ≤ left-over (x .forwarded) (x .last) p)
-    (ap₂ (λ (u v : ℕ). left-over u v p) (sym (r .forwarded)) (sym (r .last)))
+    (ap₂ (λ (u v : ℕ). left-over u v p) (sym (ap (λ (y : Session). y .forwarded) (r .session))) (sym (ap (λ (y : Session). y .last) (r .session))))
     (subst (λ (k : ℕ). one-if k + left-over (x .forwarded) (x .last) p ≤ left-over (x .forwarded) (x .last) p) (sym (r .outcome)) (omega arith))
 
 read-shrinks : (x : Session) (p : Profile) (o : Option Request) → Shrinks x p (advance-read x p o)

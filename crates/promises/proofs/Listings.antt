@@ -50,7 +50,10 @@ module _ (g : Given) (image r before : List ℕ) (p : Profile) (q : Request) (h 
     no-other = λ n d t. rising-has (only-complete fits d t);
     places = ap (λ (k : ℕ). numbers chosen ++ drop k before) (numbers-length chosen);
     count = numbers-length chosen;
+    refusal = refl;
+    place = refl;
     examined = refl;
+    trials = refl;
   }
 
   pub lists-all : ListsAll g p q before (listing g image r before)

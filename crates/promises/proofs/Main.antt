@@ -11,12 +11,12 @@ use Rattle.octets.specs.Lists.{every}
 use Rattle.pattern.specs.Pattern.{Atom, Pattern, Matches}
 use Rattle.pattern.specs.Matching.{matches}
 use Rattle.pattern.proofs.Meaning.{matches-iff}
-use Rattle.profile.specs.Image.{Criterion, Profile, accepted}
+use Rattle.profile.specs.Image.{Stored, Criterion, Profile, accepted}
 use Rattle.profile.specs.Judging.{judge}
-use Rattle.lookups.specs.Lookups.{server, part-of}
-use Rattle.lookups.proofs.Parts.{server-part}
+use Rattle.lookups.specs.Lookups.{check, server, information, part-of}
+use Rattle.lookups.proofs.Parts.{server-part, information-part}
 use Rattle.request.specs.Request.{Request}
-use Rattle.session.specs.Session.{possible, report-session}
+use Rattle.session.specs.Session.{possible, unopened, open-session, report-session}
 use Rattle.session.specs.declared.Session.{Session}
 use Rattle.rows.specs.Rows.{Given}
 use Rattle.order.specs.Order.{Numbered}
@@ -24,19 +24,19 @@ use Rattle.route.specs.Advance.{advance}
 use Rattle.listing.specs.Listing.{listing}
 use Rattle.route.proofs.Trials as trials
 use Rattle.listing.proofs.Trials as list-trials
-use Rattle.promises.specs.Agreement.{Agree}
+use Rattle.promises.specs.Agreement.{MayDiffer}
 use Rattle.promises.specs.Calls.{Call, Store, run, AllRelated}
 use Rattle.promises.specs.Common as common
 use Rattle.promises.specs.Marked as marked
 use Rattle.promises.specs.Reached.{Reached}
-use Rattle.promises.specs.Refusals.{First, advance-lines, listing-lines, report-lines, AdvanceUnchanged, ListingUnchanged}
+use Rattle.promises.specs.Refusals.{First, check-lines, open-lines, advance-lines, listing-lines, report-lines, lookup-lines, AdvanceUnchanged, ListingUnchanged, LookupEmpty}
 use Rattle.promises.specs.Walks.{Candidate, Answers, Answered, Listable, ListsAll, Move, forwards}
 use Rattle.promises.proofs.Alike as alike
 use Rattle.promises.proofs.AtMost.{at-most}
 use Rattle.promises.proofs.Listings.{lists-all}
 use Rattle.promises.proofs.Next.{route-iff, advance-answers}
 use Rattle.promises.proofs.Reach as reach
-use Rattle.promises.proofs.Refused.{of-advanced, of-listing, of-reported, advance-refusal, listing-refusal, report-refusal}
+use Rattle.promises.proofs.Refused.{of-checked, of-opened, of-advanced, of-listing, of-reported, of-lookup, check-refusal, open-refusal, advance-refusal, listing-refusal, report-refusal, server-refusal, information-refusal}
 use Rattle.promises.proofs.Sequences.{run-same}
 use Rattle.promises.proofs.Unchanged as unchanged
 
@@ -48,6 +48,18 @@ advance-refuses = advance-refusal
 
 pub listing-refuses : (g : Given) (image r before : List ℕ) → First (listing-lines g image r before) (of-listing (listing g image r before))
 listing-refuses = listing-refusal
+
+pub check-refuses : (image : List ℕ) → First (check-lines image) (of-checked (check image))
+check-refuses = check-refusal
+
+pub open-refuses : (case : ℕ) → First (open-lines case) (of-opened (open-session case))
+open-refuses = open-refusal
+
+pub server-refuses : (image : List ℕ) (i : ℕ) → First (lookup-lines image i) (of-lookup (server image i))
+server-refuses = server-refusal
+
+pub information-refuses : (image : List ℕ) (i : ℕ) → First (lookup-lines image i) (of-lookup (information image i))
+information-refuses = information-refusal
 
 pub report-refuses : (x : Session) (n : ℕ) → First (report-lines x n) (of-reported (report-session x n))
 report-refuses = report-refusal
@@ -61,6 +73,17 @@ listing-unchanged = unchanged.listing-unchanged
 
 pub report-unchanged : (x : Session) (n : ℕ) → (report-session x n .refusal ≡ 0 → ⊥) → report-session x n .session ≡ x
 report-unchanged = unchanged.report-unchanged
+
+-- "A refused opening gives a finished session of case 0"
+pub open-unopened : (case : ℕ) → (open-session case .refusal ≡ 0 → ⊥) → open-session case .session ≡ unopened
+open-unopened = unchanged.open-unopened
+
+-- "Refused or absent gives an empty part"
+pub server-empty : (image : List ℕ) (i : ℕ) → (server image i .refusal ≡ 0 → ⊥) → LookupEmpty (server image i)
+server-empty = unchanged.server-empty
+
+pub information-empty : (image : List ℕ) (i : ℕ) → (information image i .refusal ≡ 0 → ⊥) → LookupEmpty (information image i)
+information-empty = unchanged.information-empty
 
 -- number 10 is exactly "a record that no session can have", or one in another state
 pub possible-iff-reached : (x : Session) → T (possible x) ↔ Reached x
@@ -101,12 +124,17 @@ pub server-is-part : (image : List ℕ) (p : Profile) → judge image ≡ accept
     → part-of image (server image i) ≡ c .server .bytes
 server-is-part = server-part
 
+-- and so is its information
+pub information-is-part : (image : List ℕ) (p : Profile) → judge image ≡ accepted p → (i : ℕ) (c : Criterion) → getElem? (p .criteria) i ≡ some c
+    → (x : Stored) → c .info ≡ some x → part-of image (information image i) ≡ x .bytes
+information-is-part = information-part
+
 -- ---- demand 3: nothing else in the message was read
 
-pub advance-reads-no-more : (image a b : List ℕ) → Agree image a b → (x : Session) → advance x image a ≡ advance x image b
+pub advance-reads-no-more : (image a b : List ℕ) → MayDiffer image a b → (x : Session) → advance x image a ≡ advance x image b
 advance-reads-no-more = alike.advance-same
 
-pub listing-reads-no-more : (image a b : List ℕ) → Agree image a b → (g : Given) (before : List ℕ) → listing g image a before ≡ listing g image b before
+pub listing-reads-no-more : (image a b : List ℕ) → MayDiffer image a b → (g : Given) (before : List ℕ) → listing g image a before ≡ listing g image b before
 listing-reads-no-more = alike.listing-same
 
 -- over any sequence of calls: equal answers, refusals, counts, lists and sessions

@@ -48,25 +48,34 @@ module _ (x : Session) (p : Profile) (q : Request) where
   unfolding candidates
   is-candidate n c = only-complete (above-last x) (c .member) (c .above)
 
-  answered : (o : Option Numbered) (e t : ℕ) → Right (fits-now x p q) (candidates x (p .criteria)) o → Answered x p q (answer x o e t)
-  answered none e t h = routing (record { none-fits = λ n c. h n (is-candidate n c) (c .fit); outcome = refl; last = refl; forwarded = refl })
-  answered (some n) e t h = forwarding (record {
+  trials-of : List Numbered → ℕ
+  trials-of ns = total (λ n. criterion-trials q (in-session x) p (n .criterion)) ns
+
+  answered : (o : Option Numbered) → Right (fits-now x p q) (candidates x (p .criteria)) o
+      → Answered x p q (answer x o (length (up-to o (candidates x (p .criteria)))) (trials-of (up-to o (candidates x (p .criteria)))))
+  unfolding trials-of
+  answered none h = routing (record {
+    none-fits = λ n c. h n (is-candidate n c) (c .fit);
+    outcome = refl;
+    number = refl;
+    its-priority = refl;
+    session = refl;
+    counts = record { refusal = refl; place = refl; examined = refl; trials = refl };
+  })
+  answered (some n) h = forwarding (record {
     chosen-one = n;
     candidate = as-candidate n (h .member) (h .fit);
     lowest = λ m c. h .lowest m (is-candidate m c) (c .fit);
     outcome = refl;
     number = refl;
     its-priority = refl;
-    last = refl;
-    forwarded = refl;
+    session = refl;
+    counts = record { refusal = refl; place = refl; examined = refl; trials = refl };
   })
 
   pub walk-answers : Answered x p q (walk x p q)
-  unfolding walk walk-with
-  walk-answers =
-      answered (choice x p q) (length (up-to (choice x p q) (candidates x (p .criteria))))
-      (total (λ n. criterion-trials q (in-session x) p (n .criterion)) (up-to (choice x p q) (candidates x (p .criteria))))
-      (least-right (fits-now x p q) (candidates x (p .criteria)))
+  unfolding walk walk-with trials-of
+  walk-answers = answered (choice x p q) (least-right (fits-now x p q) (candidates x (p .criteria)))
 
   routes-none : (a : Advanced) → Answered x p q a → a .outcome ≡ 2 → (n : Numbered) → Candidate x p q n → ⊥
   routes-none a (forwarding f) e n c = let z : _≡_ {A = ℕ} 1 2 = sym (f .outcome) ∙ e in absurd (omega arith)

@@ -45,6 +45,10 @@ two-criteria =
     1 ∷ two 2 ++ string "sip:a" ++ string "REGISTER" ++ two 1 ++ row 0 1 1 65535 ++ two 1 ++ membership 0 0
     ++ two 2 ++ criterion 5 2 0 0 0 1 ++ criterion 3 0 0 1 0 0
 
+-- two criteria with no trigger
+twice : List ℕ
+twice = 1 ∷ two 1 ++ string "sip:a" ++ two 0 ++ two 0 ++ two 2 ++ criterion 5 2 0 0 0 0 ++ criterion 7 2 0 0 0 0
+
 -- one criterion for a From field
 for-from : List ℕ
 for-from = 1 ∷ two 2 ++ string "sip:a" ++ string "From" ++ two 1 ++ row 0 2 1 65535 ++ two 1 ++ membership 0 0 ++ two 1 ++ criterion 5 0 0 1 0 0
@@ -55,13 +59,13 @@ forwards-5 : advance (fresh 0) one-criterion invite .outcome ≡ 1
 unfolding advance invite
 forwards-5 = refl
 
--- the session once the server returned the request
+-- the session once the first server returned the request: there is another
 returned : Session
-returned = report-session (advance (fresh 0) one-criterion invite .session) 0 .session
+returned = report-session (advance (fresh 0) twice invite .session) 0 .session
 
-then-routes : advance returned one-criterion invite .outcome ≡ 2
-unfolding advance report-session invite returned
-then-routes = refl
+forwards-again : advance returned twice invite .outcome ≡ 1
+unfolding advance report-session invite returned twice
+forwards-again = refl
 
 no-trials : advance (fresh 0) for-from invite .trials ≡ 0
 unfolding advance invite for-from
@@ -87,11 +91,9 @@ trials-of : Advanced → ℕ
 trials-of a = a .trials
 
 -- one that refuses everything
-pub not-refuse-all : (lib : Library) → ((x : Session) (image r : List ℕ) → lib x image r .outcome ≡ 0) → Meets lib → ⊥
-unfolding outcome-of
-not-refuse-all lib h m =
-    let z : _≡_ {A = ℕ} 0 1 = sym (h (fresh 0) one-criterion invite) ∙ ap outcome-of (m (fresh 0) one-criterion invite .answer) ∙ forwards-5 in
-    omega arith
+pub not-refuse-all : (lib : Library) → ((x : Session) (image r : List ℕ) → lib x image r .refusal ≡ 0 → ⊥) → Meets lib → ⊥
+unfolding advance invite
+not-refuse-all lib h m = h (fresh 0) one-criterion invite (ap (λ (a : Advanced). a .refusal) (m (fresh 0) one-criterion invite .answer))
 
 -- one that always routes
 pub not-always-route : (lib : Library) → ((x : Session) (image r : List ℕ) → lib x image r .outcome ≡ 2) → Meets lib → ⊥
@@ -100,12 +102,10 @@ not-always-route lib h m =
     let z : _≡_ {A = ℕ} 2 1 = sym (h (fresh 0) one-criterion invite) ∙ ap outcome-of (m (fresh 0) one-criterion invite .answer) ∙ forwards-5 in
     omega arith
 
--- one that is "right at its first advance and idle after": no answer to a session that forwarded before
-pub not-idle : (lib : Library) → ((x : Session) (image r : List ℕ) → x .forwarded ≡ 1 → lib x image r .outcome ≡ 0) → Meets lib → ⊥
-unfolding outcome-of advance report-session invite returned
-not-idle lib h m =
-    let z : _≡_ {A = ℕ} 0 2 = sym (h returned one-criterion invite refl) ∙ ap outcome-of (m returned one-criterion invite .answer) ∙ then-routes in
-    omega arith
+-- one that is "right at its first advance and idle after": it refuses or routes every session that forwarded before
+pub not-idle : (lib : Library) → ((x : Session) (image r : List ℕ) → x .forwarded ≡ 1 → lib x image r .outcome ≡ 1 → ⊥) → Meets lib → ⊥
+unfolding outcome-of advance report-session invite returned twice
+not-idle lib h m = h returned twice invite refl (ap outcome-of (m returned twice invite .answer) ∙ forwards-again)
 
 -- one whose trials are made up: the same whatever the request
 pub not-made-up : (lib : Library) → ((x : Session) (image a b : List ℕ) → lib x image a .trials ≡ lib x image b .trials) → Meets lib → ⊥

@@ -7,7 +7,7 @@ use mathlib.Core.List.{List, [], _∷_}
 use lib.Dec.{T}
 use Rattle.octets.specs.Lists.{some-of}
 use Rattle.pattern.specs.Matching.{name-matches}
-use Rattle.profile.specs.Image.{Test, request-uri, method, header, session-case, description, Row, Profile, accepted}
+use Rattle.profile.specs.Image.{Test, request-uri, method, header, session-case, description, Row, Profile, accepted, refused}
 use Rattle.profile.specs.Judging.{judge}
 use Rattle.request.specs.Cutting.{Cut, first-cut}
 use Rattle.request.specs.Request.{Request, Field, empty-line, head-lines, read-request}
@@ -74,3 +74,10 @@ pub record Agree (image a b : List ℕ) : Type 0 where
   pub same-start-line : start-of a ≡ start-of b
   pub same-fields : AgreeFields (profile .rows) (q .fields) (r .fields)
   pub same-body : T (any-description (profile .rows)) → q .body ≡ r .body
+
+-- two requests that may differ, for the image lent with them: they agree as above; or the image is refused, whatever they hold; or
+-- neither is readable
+pub data MayDiffer (image a b : List ℕ) : Type 0 where
+  agreeing : Agree image a b → MayDiffer image a b
+  no-profile : {n place : ℕ} → judge image ≡ refused n place → MayDiffer image a b
+  no-requests : read-request a ≡ none → read-request b ≡ none → MayDiffer image a b

@@ -14,7 +14,7 @@ use Rattle.rows.specs.Rows.{Given}
 use Rattle.route.specs.Advance.{advance}
 use Rattle.listing.specs.Listing.{Listing, listing}
 use Rattle.route.specs.declared.Advanced.{Advanced}
-use Rattle.promises.specs.Agreement.{Agree}
+use Rattle.promises.specs.Agreement.{MayDiffer}
 
 -- every call of the library, with all that it is lent; a session is named by its slot
 pub data Call : Type 0 where
@@ -72,11 +72,11 @@ run (c ∷ cs) st =
 
 -- ---- two sequences that differ only in what demand 3 lets differ
 
--- a call and itself; or two with a request each, which agree for the profile lent with them, all else equal
+-- a call and itself; or two with a request each, which may differ, all else equal
 pub data Related : Call → Call → Type 0 where
   equal : {c : Call} → Related c c
-  advances : {k : ℕ} {image a b : List ℕ} → Agree image a b → Related (advancing k image a) (advancing k image b)
-  lists : {g : Given} {image a b places : List ℕ} → Agree image a b → Related (listing-it g image a places) (listing-it g image b places)
+  advances : {k : ℕ} {image a b : List ℕ} → MayDiffer image a b → Related (advancing k image a) (advancing k image b)
+  lists : {g : Given} {image a b places : List ℕ} → MayDiffer image a b → Related (listing-it g image a places) (listing-it g image b places)
 
 pub data AllRelated : List Call → List Call → Type 0 where
   no-calls : AllRelated [] []

@@ -6,15 +6,15 @@ use Prim.Native.Nat.{ℕ, _+_, _≤_}
 use mathlib.Core.List.{List, [], _∷_, _++_, List·Memᴰ}
 use lib.ListN.{length, drop}
 use lib.Dec.{T, leb, ltb, eqb}
-use Rattle.octets.specs.Lists.{pick, every, same}
+use Rattle.octets.specs.Lists.{pick, every, same, total}
 use Rattle.profile.specs.Image.{Profile, accepted}
 use Rattle.profile.specs.Judging.{judge}
 use Rattle.request.specs.Request.{Request, read-request}
-use Rattle.session.specs.Session.{possible, ready, report-session}
+use Rattle.session.specs.Session.{possible, ready, waiting, finished, with-state, report-session}
 use Rattle.session.specs.declared.Session.{Session}
 use Rattle.rows.specs.Rows.{Given, REGISTER}
-use Rattle.fitting.specs.Fitting.{criterion-fits}
-use Rattle.order.specs.Order.{Numbered, numbered, priority, above-last}
+use Rattle.fitting.specs.Fitting.{criterion-fits, criterion-trials}
+use Rattle.order.specs.Order.{Numbered, numbered, priority, above-last, candidates, up-to}
 use Rattle.route.specs.Advance.{in-session, advance}
 use Rattle.listing.specs.Listing.{Listing, listed, numbers}
 use Rattle.route.specs.declared.Advanced.{Advanced}
@@ -35,6 +35,13 @@ pub record Answers (x : Session) (image r : List ℕ) (p : Profile) (q : Request
   pub reads : read-request r ≡ some q
   pub other : same (q .method) REGISTER ≡ false
 
+-- no refusal, and the counts of the criteria looked at
+pub record Counts (x : Session) (p : Profile) (q : Request) (seen : List Numbered) (a : Advanced) : Type 0 where
+  pub refusal : a .refusal ≡ 0
+  pub place : a .place ≡ 0
+  pub examined : a .examined ≡ length seen
+  pub trials : a .trials ≡ total (λ n. criterion-trials q (in-session x) p (n .criterion)) seen
+
 -- the chosen one, with what the answer says of it
 pub record Forward (x : Session) (p : Profile) (q : Request) (a : Advanced) : Type 0 where
   pub chosen-one : Numbered
@@ -43,15 +50,17 @@ pub record Forward (x : Session) (p : Profile) (q : Request) (a : Advanced) : Ty
   pub outcome : a .outcome ≡ 1
   pub number : a .number ≡ chosen-one .number
   pub its-priority : a .priority ≡ priority chosen-one
-  pub last : a .session .last ≡ priority chosen-one
-  pub forwarded : a .session .forwarded ≡ 1
+  pub session : a .session ≡ record { case = x .case; state = waiting; forwarded = 1; last = priority chosen-one; handling = chosen-one .criterion .handling }
+  pub counts : Counts x p q (up-to (some chosen-one) (candidates x (p .criteria))) a
 
--- there is none: all that changes is the state
+-- there is none: of the session only the state changes
 pub record Routes (x : Session) (p : Profile) (q : Request) (a : Advanced) : Type 0 where
   pub none-fits : (n : Numbered) → Candidate x p q n → ⊥
   pub outcome : a .outcome ≡ 2
-  pub last : a .session .last ≡ x .last
-  pub forwarded : a .session .forwarded ≡ x .forwarded
+  pub number : a .number ≡ 0
+  pub its-priority : a .priority ≡ 0
+  pub session : a .session ≡ with-state x finished
+  pub counts : Counts x p q (candidates x (p .criteria)) a
 
 -- an answer is one or the other
 pub data Answered (x : Session) (p : Profile) (q : Request) (a : Advanced) : Type 0 where
@@ -82,7 +91,10 @@ pub record ListsAll (g : Given) (p : Profile) (q : Request) (before : List ℕ) 
   pub no-other : (n : Numbered) → List·Memᴰ n (numbered 0 (p .criteria)) → T (criterion-fits q g p (n .criterion)) → List·Memᴰ n chosen
   pub places : l .places ≡ numbers chosen ++ drop (length chosen) before
   pub count : l .answer .count ≡ length chosen
+  pub refusal : l .answer .refusal ≡ 0
+  pub place : l .answer .place ≡ 0
   pub examined : l .answer .examined ≡ length (p .criteria)
+  pub trials : l .answer .trials ≡ total (criterion-trials q g p) (p .criteria)
 
 -- ---- how often
 
