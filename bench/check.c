@@ -1,4 +1,5 @@
-/* How long the check of an image takes as the image grows: each family doubles. Not linear yet: "long ones". */
+/* How long the check of an image takes as the image grows: each family doubles. Where long strings are named by
+ * many fields ("long ones") it grows faster than the image, since each field that names a string judges it again. */
 #include <stddef.h>
 #include <stdint.h>
 #include <stdio.h>

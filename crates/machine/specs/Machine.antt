@@ -88,7 +88,8 @@ pub record Stepped (sets : List (List ℕ)) (before : List ℕ) (size candidates
 abbrev pub null-somewhere : Shape → ℕ → Bool
 null-somewhere h n = (h .head || h .tail) || (h .middle && ltb 1 n)
 
--- A text that begins with the byte b has no part: one could begin at the text's start alone, and no position that may begin it meets b.
+-- A text that begins with the byte b has no part but an empty one: another could begin at the text's start alone, and no position that may
+-- begin it meets b.
 pub record Shut (h : Shape) (sets : List (List ℕ)) (b : ℕ) : Type 0 where
   pub not-inner : h .inner ≡ 0
   pub not-start : (p : ℕ) → T (bit (h .start) p) → T (met (h .size) sets b p) → ⊥

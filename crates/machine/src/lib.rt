@@ -145,8 +145,8 @@ fn empty_somewhere(h: Shape, n: usize) -> bool
     h.head | h.tail | (h.middle & (1 < n))
 }
 
-// Whether a text that begins with the byte b has no part: one could begin at the text's start alone, and b is met by no position that
-// may begin it.
+// Whether a text that begins with the byte b has no part but an empty one: another could begin at the text's start alone, and b is met
+// by no position that may begin it.
 fn shut(h: Shape, sets: &[[u64; 4]; 60], before: &[u64; 60], b: u8) -> bool
     requires { ⌜ h .size ≤ 60 ⌝ }
     ensures { λ r. ⌜ (r ≡ true → Shut h (now (sets .entry)) b) ⌝ }

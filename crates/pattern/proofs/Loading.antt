@@ -13,7 +13,7 @@ use Rattle.machine.specs.declared.Shape.{Shape}
 use Rattle.pattern.specs.Answers.{was-read, is-pattern}
 use Rattle.pattern.specs.Pattern.{Atom, Elem, Pattern}
 use Rattle.pattern.specs.Places.{map-got, PieceAt}
-use Rattle.pattern.specs.Prepared.{no-marks, mark, marks, before-at, set-as, shape-by, no-shape, shape-of, FilledFor, Loaded}
+use Rattle.pattern.specs.Prepared.{no-marks, mark, marks, before-at, set-as, shape-by, no-shape, takes-part, shape-of, FilledFor, Loaded}
 use Rattle.pattern.specs.Reading.{atom, read-pattern}
 use Rattle.pattern.specs.Drawn.{drawn}
 use Rattle.pattern.specs.declared.edition1.Marks.{Marks}
@@ -110,14 +110,14 @@ module _ (fold : Bool) (s : List ℕ) (old-sets : List (List ℕ)) (old-before :
 
 -- ---- what the machine tells
 
-pub shape-tells : (h : Shape) (p : List ℕ) → h ≡ shape-of (read-pattern p) → (not (eqb (h .size) 0) || h .whole) ≡ is-pattern p
+pub shape-tells : (h : Shape) (p : List ℕ) (r : Bool) → r ≡ takes-part h → h ≡ shape-of (read-pattern p) → r ≡ is-pattern p
 unfolding is-pattern
-shape-tells h p e = ap (λ (x : Shape). not (eqb (x .size) 0) || x .whole) e ∙ go (read-pattern p)
+shape-tells h p r t e = t ∙ ap takes-part e ∙ go (read-pattern p)
   where
     told : (es : List Elem) → (not (eqb (marks no-marks es .at) 0) || marks no-marks es .free) ≡ true
     told [] = refl
     told (x ∷ es) = ap (λ (b : Bool). not b || marks no-marks (x ∷ es) .free) (ne-eqb (marks no-marks (x ∷ es) .at) 0 (λ z. absurd (omega (arith, at-bit no-marks (x ∷ es), z))))
 
-    go : (o : Option Pattern) → (not (eqb (shape-of o .size) 0) || shape-of o .whole) ≡ was-read o
+    go : (o : Option Pattern) → takes-part (shape-of o) ≡ was-read o
     go none = refl
     go (some x) = told (x .elems)

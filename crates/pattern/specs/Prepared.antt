@@ -1,10 +1,11 @@
 -- What stands in the lent places for a pattern: a position for each element.
 use mathlib.Core.Path.{_≡_}
-use mathlib.Core.Bool.{Bool, true, false, not, _&&_}
+use mathlib.Core.Bool.{Bool, true, false, not, _&&_, _||_}
 use mathlib.Core.Option.{Option, none, some}
 use mathlib.Core.List.{List, [], _∷_, _++_}
 use Prim.Native.Nat.{ℕ, _+_, _^_}
 use lib.Bits.{bitOr}
+use lib.Dec.{eqb}
 use lib.ListN.{length, drop}
 use Rattle.octets.specs.Lists.{pick}
 use Rattle.machine.specs.declared.Shape.{Shape}
@@ -80,6 +81,10 @@ shape-by m left right = record {
 -- no part fits
 abbrev pub no-shape : Shape
 no-shape = record { size = 0; start = 0; inner = 0; ends = 0; stops = 0; whole = false; head = false; tail = false; middle = false }
+
+-- a machine that takes part: it has a position, or the empty part fits
+abbrev pub takes-part : Shape → Bool
+takes-part h = not (eqb (h .size) 0) || h .whole
 
 abbrev pub shape-of : Option Pattern → Shape
 shape-of none = no-shape

@@ -1,16 +1,13 @@
 // Patterns of edition 1 as machines: a position for each element.
 ghost use mathlib.Core.Path.{_≡_};
 ghost use mathlib.Core.Bool.{true};
-ghost use mathlib.Core.List.{List};
-ghost use Prim.Native.Nat.{ℕ, _^_, _<_};
+ghost use Prim.Native.Nat.{_^_, _<_};
 ghost use lib.Bits.{bitOr};
 ghost use lib.ListN.{length};
 ghost use Rattle.octets.specs.Lists.{pick};
-ghost use Rattle.pattern.specs.Answers.{is-pattern};
 ghost use Rattle.pattern.specs.Drawn.{drawn};
 ghost use Rattle.pattern.specs.Pattern.{Atom};
-ghost use Rattle.pattern.specs.Prepared.{no-marks, mark as marked, before-at, set-as, shape-by, no-shape, shape-of, Loaded};
-ghost use Rattle.pattern.specs.Reading.{read-pattern};
+ghost use Rattle.pattern.specs.Prepared.{no-marks, mark as marked, before-at, set-as, shape-by, no-shape, takes-part, Loaded};
 use crate::reader::atom_at;
 use crate::reader::behind;
 use crate::reader::is_anchor;
@@ -185,9 +182,9 @@ pub fn load(s: &[u8], fold: bool, sets: &mut [[u64; 4]; 60], before: &mut [u64; 
     shape_by(m, left, false)
 }
 
-// Whether the string that was loaded is a pattern: the machine that takes no part has no position, and no empty part fits it.
+// Whether the string that was loaded is a pattern (`Loading.shape-tells`): any other gave the machine that takes no part.
 pub fn is_loaded(h: Shape) -> bool
-    ensures { λ r. ⌜ ((p : List ℕ) → h ≡ shape-of (read-pattern p) → r ≡ is-pattern p) ⌝ }
+    ensures { λ r. ⌜ r ≡ takes-part h ⌝ }
 {
     (h.size != 0) | h.whole
 }

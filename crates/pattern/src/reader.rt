@@ -168,7 +168,7 @@ fn bracket_at(s: &[u8], i: usize, build: bool) -> Piece
     bracket_of(s, i, false, build)
 }
 
-// "`\\` before one of `. [ \\ * ^ $`"
+// "`\` before one of `. [ \ * ^ $`"
 fn is_special(c: u16) -> bool
     ensures { λ r. ⌜ r ≡ some-of (eqb c) (text ".[\\*^$") ⌝ }
 {

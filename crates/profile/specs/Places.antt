@@ -1,5 +1,5 @@
--- Document 01, "Profile image" and "Refusal numbers": the judgement of an arbitrary list of bytes, field by field in reading order.
--- `judge s` is the profile that s holds, or the number and the place of the first fault.
+-- The judgement as the code goes, by places in the bytes and without what the strings hold. The definition to believe is
+-- `Judging.judge`; `proofs/Same` shows that both give the same number and place.
 use Prim.Native.Nat.{ℕ, zero, suc, _+_, _*_, _≤_, _<_}
 use mathlib.Core.Bool.{Bool, true, false, not, cond, _&&_, _||_}
 use mathlib.Core.List.{List, [], _∷_, _++_, map}

@@ -341,8 +341,9 @@ pub enum Reading {
     },
 }
 
-// Reads a request into lent places that need hold no more than this one's fields.
-pub fn read_within(s: &[u8], starts: &mut [u16], colons: &mut [u16]) -> Reading
+// Reads a request. The places of each field's line and of its colon go to the front of the lent places, which need hold no more than this
+// one's fields; nothing is written where the request is unreadable.
+pub fn read(s: &[u8], starts: &mut [u16], colons: &mut [u16]) -> Reading
     requires { ⌜ Room (now s) (now starts) × Room (now s) (now colons) ⌝ }
     ensures { λ r. ⌜ Read (now (s .entry)) (now (starts .entry)) (now (colons .entry)) (now (starts .exit)) (now (colons .exit)) r ⌝ }
 {
@@ -363,15 +364,6 @@ pub fn read_within(s: &[u8], starts: &mut [u16], colons: &mut [u16]) -> Reading
             }
         }
     }
-}
-
-// Reads a request. The places of each field's line and of its colon go to the front of the lent places; nothing is written where the request
-// is unreadable.
-pub fn read(s: &[u8], starts: &mut [u16], colons: &mut [u16]) -> Reading
-    requires { ⌜ (16384 ≤ length (now starts)) × (16384 ≤ length (now colons)) ⌝ }
-    ensures { λ r. ⌜ Read (now (s .entry)) (now (starts .entry)) (now (colons .entry)) (now (starts .exit)) (now (colons .exit)) r ⌝ }
-{
-    read_within(s, starts, colons)
 }
 
 // ---- one field

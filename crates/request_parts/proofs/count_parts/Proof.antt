@@ -3,8 +3,8 @@ use Rattle.request_parts.proofs.Counting.{nothing-read, body-room, body
 use Rattle.request_parts.proofs.count_parts.Statement.{statement}
 use Rattle.request_parts.proofs.count_parts.Tie as tie
 
-read-within-requires : tie.Need-read-within-requires
-read-within-requires c κs = search needs
+read-requires : tie.Need-read-requires
+read-requires c κs = search needs
 
 enum-told : tie.Need-enum-told
 enum-told c = search needs
@@ -58,7 +58,7 @@ pub count-parts-spec : {M : Type 1} → statement M
 count-parts-spec =
     tie.close
     (tie.spec
-    read-within-requires
+    read-requires
     enum-told
     enum-known-method
     count-all-values-requires

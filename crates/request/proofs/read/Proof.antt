@@ -1,7 +1,7 @@
 use borrow.Author.Needs.{needs}
 use Rattle.request.proofs.Answers.{head-inside, fillable, read-refused, read-accepted}
-use Rattle.request.proofs.read_within.Statement.{statement}
-use Rattle.request.proofs.read_within.Tie as tie
+use Rattle.request.proofs.read.Statement.{statement}
+use Rattle.request.proofs.read.Tie as tie
 
 judge-requires : tie.Need-judge-requires
 judge-requires c κs = search needs
@@ -36,8 +36,8 @@ same-length-2 c = search needs
 returns-2 : tie.Need-returns-2
 returns-2 c = search read-accepted
 
-pub read-within-spec : {M : Type 1} → statement M
-read-within-spec =
+pub read-spec : {M : Type 1} → statement M
+read-spec =
     tie.close
     (tie.spec
     judge-requires
