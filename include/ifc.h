@@ -1,12 +1,13 @@
 /* ifc: decides to which application server a SIP call goes next.
  *
  * A controller lends bytes and numbers; the library reads them and answers with numbers. It opens no file, sends nothing and
- * allocates nothing. What it answers is settled by document 01; sentences in quotes here are from there.
+ * allocates nothing. What it answers is settled by the project's requirement paper, document 01; sentences in quotes here are from
+ * there. It follows 3GPP's initial filter criteria, RFC 3261 and POSIX basic regular expressions.
  *
- * Profile image   the subscriber's filter criteria in the house format, at most 32,768 bytes. Every call that takes an image
- *                 judges the whole of it before using it, so it need not be checked before.
+ * Profile image   the subscriber's filter criteria in the house format (docs/IMAGE.md of the source), at most 32,768 bytes. Every call
+ *                 that takes an image judges the whole of it before using it, so it need not be checked before.
  * Request         one SIP request as it came from the wire: start line, fields, empty line, body; at most 65,535 bytes.
- * Session         five numbers that the caller keeps between calls: see ifc_session.
+ * Session         five numbers that the caller keeps between calls: see ifc_session. Nothing needs closing.
  * Criterion       named by its number in the image, counted from 0, not by its priority.
  *
  * What every call keeps to
@@ -17,13 +18,14 @@
  *   fault (1 to 6) stands, in bytes from the image's start; and a session's numbers, which stay as they were. ifc_open alone
  *   writes a session on a refusal, too.
  * - Image and request are only read, and lent for the call: nothing points into them afterwards. They may be NULL if their length
- *   is 0, and so may the list. All other pointers must be valid. Lent numbers and the list overlap nothing else that is lent.
+ *   is 0, and so may the list. All other pointers must be valid and aligned. Lent numbers and the list overlap nothing else that
+ *   is lent.
  * - There is no global state. Any number of threads may call at once, also over one image; a session belongs to one thread at a
  *   time, as any variable does.
- * - Stack: about 160 KB for a call; docs/TRUST.md has the figure that was measured.
- * - Time is bounded by the limits above; bench/run shows how it grows.
+ * - Stack: at most 160 KB (163,840 bytes) for a call, measured.
+ * - Time grows with rows times request; a typical advance takes some 25 us on x86-64, @@WORST@@.
  *
- * C99 and C++. Link with libifc.a. */
+ * C99 and C++. Link with libifc.a: code for Linux on x86-64 that needs memcpy and memset alone. */
 #ifndef IFC_H
 #define IFC_H
 
@@ -36,25 +38,28 @@ extern "C" {
 
 /* ---- numbers */
 
+/* Limits. */
+enum { IFC_IMAGE_MOST = 32768, IFC_REQUEST_MOST = 65535, IFC_CRITERIA_MOST = 64 };
+
 /* Refusals, each with its line of document 01. */
 enum {
     IFC_ACCEPTED = 0,
     IFC_IMAGE_TOO_LONG = 1,       /* image over 32,768 */
     IFC_IMAGE_CUT = 2,            /* image ends too early */
     IFC_IMAGE_NOT_AT_END = 3,     /* bytes after the criteria */
-    IFC_IMAGE_FIELD = 4,          /* field out of range, order or table; row without membership */
+    IFC_IMAGE_FIELD = 4,          /* field out of range, order or table; row without membership; edition other than 1 */
     IFC_IMAGE_STRING = 5,         /* string wrong for its use */
     IFC_IMAGE_PRIORITY = 6,       /* repeated priority */
     IFC_REQUEST_UNREADABLE = 7,   /* request unreadable */
-    IFC_NUMBER_OUT_OF_RANGE = 8,  /* case above 3, report above 2 */
+    IFC_NUMBER_OUT_OF_RANGE = 8,  /* case above 3 (open, list), report above 2 */
     IFC_TYPE_OUT_OF_RANGE = 9,    /* REGISTER with type above 2 */
-    IFC_WRONG_MOMENT = 10,        /* call at the wrong moment */
+    IFC_WRONG_MOMENT = 10,        /* call at the wrong moment; numbers that no session can have */
     IFC_WRONG_METHOD = 11,        /* advance on REGISTER, listing on another method */
     IFC_TOO_FEW_PLACES = 12,      /* more fitting criteria than places */
     IFC_NO_SUCH_CRITERION = 13    /* no such criterion */
 };
 
-/* Session cases, as source document 002 numbers them. */
+/* Session cases, as 3GPP's Cx interface numbers them. */
 enum {
     IFC_ORIGINATING = 0,
     IFC_TERMINATING_REGISTERED = 1,
@@ -68,7 +73,7 @@ enum { IFC_INITIAL_REGISTRATION = 0, IFC_REREGISTRATION = 1, IFC_DEREGISTRATION 
 /* States of a session. */
 enum {
     IFC_READY = 0,    /* advance may be called */
-    IFC_WAITING = 1,  /* a criterion was answered: report what became of it */
+    IFC_WAITING = 1,  /* a server was named: report what became of the forward */
     IFC_FINISHED = 2, /* routed normally, or the opening was refused */
     IFC_RELEASED = 3, /* the server was not reached, and its default handling is "terminated" */
     IFC_ENDED = 4     /* the server gave the final response */
@@ -118,7 +123,8 @@ uint32_t ifc_report(uint32_t session_case, uint32_t *state, uint32_t forwarded, 
  * one byte a place; the rest of the list stays as it was. *count says how many. *examined is the number of criteria, *trials as
  * for an advance.
  *
- * Refused with 1 to 6, 7, 11 (another method), 8, 9, or 12 (list too short; 64 places always suffice): the list stays. */
+ * Refused with 1 to 6, 7, 11 (another method), 8, 9, or 12 (list too short; IFC_CRITERIA_MOST places always suffice): the list
+ * stays. */
 uint32_t ifc_list(const uint8_t *image, size_t image_len, const uint8_t *request, size_t request_len, uint32_t session_case,
     uint32_t registration_type, uint8_t *list, size_t list_len, uint32_t *place, uint32_t *count, uint32_t *examined,
     uint32_t *trials);
@@ -128,8 +134,8 @@ uint32_t ifc_list(const uint8_t *image, size_t image_len, const uint8_t *request
 uint32_t ifc_server(const uint8_t *image, size_t image_len, uint32_t criterion, uint32_t *place, uint32_t *start,
     uint32_t *length);
 
-/* Whether a criterion has service information (*present 1 or 0), and where it stands in the image. Present information may be
- * empty. Refused with 1 to 6 or 13. */
+/* Whether a criterion has service information (*present 1 or 0), and where it stands in the image (start and length are 0 if it is
+ * absent). Present information may be empty. Refused with 1 to 6 or 13. */
 uint32_t ifc_information(const uint8_t *image, size_t image_len, uint32_t criterion, uint32_t *place, uint32_t *present,
     uint32_t *start, uint32_t *length);
 

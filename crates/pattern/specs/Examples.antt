@@ -1,4 +1,5 @@
--- Worked examples of reading and matching: one list, one claim. Each line's answer is from document 01, source 001 or IEEE 1003.1-2004.
+-- Worked examples of reading and matching: one list, one claim. Each line's answer is from document 01, source 001 or
+-- IEEE 1003.1-2004, or one of our readings where these leave room (docs/DECISIONS.md).
 use mathlib.Core.Bool.{Bool, true, false, not}
 use mathlib.Core.Option.{Option, none, some}
 use Prim.Native.Nat.{ℕ, zero, suc}
