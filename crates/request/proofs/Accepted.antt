@@ -15,9 +15,9 @@ use Rattle.octets.specs.Lists.{every}
 use Rattle.octets.proofs.Tests.{test-cases, T-of, right}
 use Rattle.request.specs.Cutting.{begins}
 use Rattle.request.specs.Places.{head-of, part, first-line, later-lines, field-lines, fields-start}
-use Rattle.request.specs.Request.{Field, Request, Start, head-byte, paired, head-lines, whole-fields, start-line, all-fields, head, empty-line, read-request}
+use Rattle.request.specs.Request.{Field, Request, Start, head-byte, paired, head-lines, whole-fields, start-line, all-fields, head, empty-line, read-request, bytes-right, parts-right}
 use Rattle.request.specs.Searching.{first}
-use Rattle.request.specs.Steps.{bytes-right, parts-right, start-places, lines-from, judged}
+use Rattle.request.specs.Steps.{start-places, lines-from, judged}
 use Rattle.request.specs.declared.Judged.{Judged}
 use Rattle.request.specs.declared.Judged.the-variants.{Refused, Accepted}
 use Rattle.request.specs.declared.StartLine.the-variants.{Bad}

@@ -17,9 +17,9 @@ use Rattle.octets.specs.Option.{_>>=_, holds}
 use Rattle.octets.proofs.Tests.{left, right, T-of, is-true}
 use Rattle.request.specs.Cutting.{Cut, begins, push, first-cut, cut-by}
 use Rattle.request.specs.Places.{before-cut, head-of, first-line, fields-start}
-use Rattle.request.specs.Request.{Field, Request, Start, head-byte, paired, head-lines, continues, whole-fields, start-line, field, all-fields, head, empty-line, read-request}
+use Rattle.request.specs.Request.{Field, Request, Start, head-byte, paired, head-lines, continues, whole-fields, start-line, field, all-fields, head, empty-line, read-request, bytes-right}
 use Rattle.request.specs.Searching.{first}
-use Rattle.request.specs.Steps.{bytes-right, ends-right, head-place, start-places, is-some, is-field, lines-from, judged}
+use Rattle.request.specs.Steps.{ends-right, head-place, start-places, is-some, is-field, lines-from, judged}
 use Rattle.request.specs.declared.HeadPlace.{HeadPlace}
 use Rattle.request.specs.declared.HeadPlace.the-variants.{Wrong, Ends}
 use Rattle.request.specs.declared.Judged.{Judged}

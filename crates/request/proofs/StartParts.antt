@@ -20,9 +20,9 @@ use Rattle.octets.proofs.Equal.{lowers-length}
 use Rattle.octets.proofs.Tests.{left, T-of, is-true, same-eq}
 use Rattle.request.specs.Cutting.{begins, cut-at}
 use Rattle.request.specs.Places.{part}
-use Rattle.request.specs.Request.{Start, three, start-line}
+use Rattle.request.specs.Request.{Start, three, start-line, parts-right}
 use Rattle.request.specs.Searching.{first, word-byte}
-use Rattle.request.specs.Steps.{parts-right, start-places}
+use Rattle.request.specs.Steps.{start-places}
 use Rattle.request.specs.declared.StartLine.the-variants.{Bad, Good}
 use Rattle.request.proofs.Cuts.{cut-on, cut-last, nonempty}
 

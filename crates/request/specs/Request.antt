@@ -25,7 +25,7 @@ pub record Request : Type 0 where
 
 -- ---- the head
 
--- the byte before, and the rest
+-- "In the head, CR and LF stand only as pairs": a byte is LF exactly where the one before it is CR. The byte before, and the rest.
 unfoldable pub paired : ℕ → List ℕ → Bool
 paired before [] = not (eqb before 13)
 paired before (b ∷ s) = agree (eqb before 13) (eqb b 10) && paired b s
@@ -33,6 +33,10 @@ paired before (b ∷ s) = agree (eqb before 13) (eqb b 10) && paired b s
 -- "other bytes below 32 except HTAB, and 127, are refused"
 abbrev pub head-byte : ℕ → Bool
 head-byte b = within 32 126 b || leb 128 b || some-of (eqb b) (9 ∷ 10 ∷ 13 ∷ [])
+
+-- what may stand in a head
+abbrev pub bytes-right : List ℕ → Bool
+bytes-right h = every head-byte h && paired 0 h
 
 -- the lines of a head in which CR and LF stand only as pairs
 abbrev pub head-lines : List ℕ → List (List ℕ)
@@ -45,13 +49,17 @@ pub record Start : Type 0 where
   pub method : List ℕ
   pub uri : List ℕ
 
--- "method token, one SP, URI of one or more bytes 33..126, one SP, `SIP/2.0` in any case": three parts between single SPs
+-- "method token, one SP, URI of one or more bytes 33..126, one SP, `SIP/2.0` in any case"
+abbrev pub parts-right : List ℕ → List ℕ → List ℕ → Bool
+parts-right m u v = token m && not (empty u) && every uri-byte u && same-any-case v (text "SIP/2.0")
+
+-- three parts between single SPs
 abbrev pub three : List (List ℕ) → Option Start
 three [] = none
 three (m ∷ []) = none
 three (m ∷ u ∷ []) = none
 three (m ∷ u ∷ v ∷ []) = do
-  _ ← holds (token m && not (empty u) && every uri-byte u && same-any-case v (text "SIP/2.0"))
+  _ ← holds (parts-right m u v)
   some (record { method = m; uri = u })
 three (m ∷ u ∷ v ∷ w ∷ l) = none
 
@@ -119,5 +127,5 @@ unfolding first-cut cut-by paired whole-fields all-fields
 read-request s = do
   _ ← holds (leb (length s) 65535)
   c ← first-cut empty-line s
-  _ ← holds (every head-byte (c .before) && paired 0 (c .before))
+  _ ← holds (bytes-right (c .before))
   head (head-lines (c .before)) (c .after)

@@ -1,17 +1,16 @@
 -- What the contracts of private functions say: the steps on the way to an answer.
-use mathlib.Core.Bool.{Bool, true, false, not, _&&_}
+use mathlib.Core.Bool.{Bool, true, false, _&&_}
 use mathlib.Core.Option.{Option, none, some}
 use mathlib.Core.Path.{_≡_}
 use mathlib.Core.List.{List, [], _∷_, _++_}
 use Prim.Native.Nat.{ℕ, _+_, _*_, _≤_, _<_}
 use lib.ListN.{length, drop}
 use lib.Dec.{T, leb, ltb}
-use Rattle.octets.specs.Bytes.{same-any-case, token, uri-byte}
-use Rattle.octets.specs.Lists.{text, pick, every, empty}
+use Rattle.octets.specs.Lists.{pick, every, empty}
 use Rattle.request.specs.Body.{drop-cr}
 use Rattle.request.specs.Cutting.{begins, cut-by}
 use Rattle.request.specs.Places.{head-of, fields-start, line-starts, line-colons}
-use Rattle.request.specs.Request.{head-byte, paired, head-lines, Start, whole-fields, field, Request}
+use Rattle.request.specs.Request.{paired, bytes-right, head-lines, Start, whole-fields, field, Request}
 use Rattle.request.specs.Values.{Mode, plain, quoted, escaped, angle}
 use Rattle.request.specs.declared.HeadPlace.{HeadPlace}
 use Rattle.request.specs.declared.HeadPlace.the-variants.{Wrong, Ends}
@@ -28,10 +27,6 @@ use Rattle.request.specs.declared.Within.the-variants.{Text, Quotes, Esc
 abbrev pub control-size : List ℕ → ℕ
 control-size s = pick (begins (9 ∷ []) s) 1 (pick (begins (13 ∷ 10 ∷ []) s) 2 0)
 
--- the bytes of a head are right: each may stand in one, CR and LF only as pairs
-abbrev pub bytes-right : List ℕ → Bool
-bytes-right h = every head-byte h && paired 0 h
-
 -- an empty line ends the head, and its bytes are right
 abbrev pub ends-right : List ℕ → Bool
 ends-right s = ltb (length (head-of s)) (length s) && bytes-right (head-of s)
@@ -41,10 +36,6 @@ abbrev pub head-place : List ℕ → HeadPlace
 head-place s = pick (ends-right s) (Ends (length (head-of s))) Wrong
 
 -- ---- the start line
-
--- what `three` asks of the three parts of a start line
-abbrev pub parts-right : List ℕ → List ℕ → List ℕ → Bool
-parts-right m u v = token m && not (empty u) && every uri-byte u && same-any-case v (text "SIP/2.0")
 
 -- where the method and the URI of a start line end
 abbrev pub start-places : Option Start → StartLine

@@ -9,9 +9,9 @@ ghost use Rattle.octets.specs.Bytes.{white, Classes};
 ghost use Rattle.octets.specs.Lists.{every, empty, pick};
 ghost use Rattle.request.specs.Cutting.{begins};
 ghost use Rattle.request.specs.Places.{head-of, part, over, Room, Read, field-parts, Indexed, piece-at, body-line};
-ghost use Rattle.request.specs.Request.{empty-line, paired, head-lines, start-line, name-as-matched, head, read-request};
+ghost use Rattle.request.specs.Request.{empty-line, paired, head-lines, start-line, name-as-matched, head, read-request, parts-right};
 ghost use Rattle.request.specs.Searching.{first, span, line-break, text-here, word-byte, space};
-ghost use Rattle.request.specs.Steps.{control-size, head-place, parts-right, start-places, is-field, lines-from, judged, Fillable, Filled, mode-of, ended-line};
+ghost use Rattle.request.specs.Steps.{control-size, head-place, start-places, is-field, lines-from, judged, Fillable, Filled, mode-of, ended-line};
 ghost use Rattle.request.specs.Values.{plain, step, cuts, trim-right, reduced, never-cut};
 
 // ---- the head
