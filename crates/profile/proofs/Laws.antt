@@ -1,5 +1,5 @@
 -- How the readers of `specs/` go, as equations that the functions' proofs cite.
-use Prim.Native.Nat.{ℕ, _+_, _*_, _≤_, _<_}
+use Prim.Native.Nat.{ℕ, _+_, _≤_, _<_}
 use native.Mathlib.Omega.{arith}
 use mathlib.Core.Path.{_≡_, refl, sym, ap, _∙_}
 use mathlib.Core.Bool.{Bool, true, false}
@@ -36,9 +36,9 @@ pub u8-no : (s : List ℕ) (at : ℕ) → length s ≤ at → bad 2 (length s) �
 unfolding u8
 u8-no s at h = rw (whole-no s at 1 (omega arith))
 
-pub u16-yes : (s : List ℕ) (at a b : ℕ) → at + 2 ≤ length s → a ≡ byte s at → b ≡ byte s (at + 1) → good (a * 256 + b) ≡ u16 s at
+pub u16-yes : (s : List ℕ) (at n : ℕ) → at + 2 ≤ length s → n ≡ word s at → good n ≡ u16 s at
 unfolding u16
-u16-yes s at a b h e f = rw (whole-yes s at 2 h, e, f)
+u16-yes s at n h e = rw (whole-yes s at 2 h, e)
 
 pub u16-no : (s : List ℕ) (at : ℕ) → length s < at + 2 → bad 2 (length s) ≡ u16 s at
 unfolding u16

@@ -1,5 +1,5 @@
 -- How a field that names a string goes: the code has the string's offset, the reader the string.
-use Prim.Native.Nat.{ℕ, zero, suc, _+_, _-_, _*_, _≤_, _<_}
+use Prim.Native.Nat.{ℕ, zero, suc, _+_, _-_, _≤_, _<_}
 use native.Mathlib.Omega.{arith}
 use native.Mathlib.Nat.{add-sub-cancel-left, le-of-suc-le-suc, not-suc-le-zero}
 use mathlib.Core.Path.{_≡_, refl, sym, ap, _∙_}
@@ -13,12 +13,12 @@ use Rattle.octets.specs.Lists.{empty}
 use Rattle.octets.specs.Bytes.{token}
 use Rattle.pattern.specs.Answers.{is-pattern}
 use Rattle.profile.specs.Out.{good, bad, _>>=_}
-use Rattle.profile.specs.Places.{u16, byte, word, textAt, texts, usable, named, exactly}
+use Rattle.profile.specs.Places.{u16, word, textAt, texts, usable, named, exactly}
 use Rattle.profile.specs.Answers.{Table}
 use Rattle.profile.proofs.Laws.{is, refused}
 
-pub text-is : (s : List ℕ) (o a b : ℕ) → a ≡ byte s o → b ≡ byte s (o + 1) → take (o + 2 + (a * 256 + b) - (o + 2)) (drop (o + 2) s) ≡ textAt s o
-text-is s o a b e f = rw (e, f, add-sub-cancel-left)
+pub text-is : (s : List ℕ) (o n : ℕ) → n ≡ word s o → take (o + 2 + n - (o + 2)) (drop (o + 2) s) ≡ textAt s o
+text-is s o n e = rw (e, add-sub-cancel-left)
 
 -- a string by its use
 module _ (p : ℕ) (t : List ℕ) where

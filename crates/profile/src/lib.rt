@@ -121,6 +121,14 @@ pub fn wide16(w: u16) -> usize
     w as usize
 }
 
+// Two bytes of the image, as a number.
+pub fn number(s: &[u8], at: usize) -> usize
+    requires { ⌜ at + 2 ≤ length (now s) ⌝ }
+    ensures { λ r. ⌜ (r ≡ word (now (s .entry)) at) × (r < 65536) ⌝ }
+{
+    wide(s[at]) * 256 + wide(s[at + 1])
+}
+
 fn byte_at(s: &[u8], at: usize) -> Field
     ensures { λ r. ⌜ fieldOut r ≡ u8 (now (s .entry)) at ⌝ }
 {
@@ -139,7 +147,7 @@ fn word_at(s: &[u8], at: usize) -> Field
     ensures { λ r. ⌜ fieldOut r ≡ u16 (now (s .entry)) at ⌝ }
 {
     if at + 2 <= s.len() {
-        Field::Is(wide(s[at]) * 256 + wide(s[at + 1]))
+        Field::Is(number(s, at))
     } else {
         Field::Refused {
             number: 2,
@@ -235,7 +243,7 @@ fn text(s: &[u8], o: usize) -> &[u8]
     requires { ⌜ o + 2 + word (now s) o ≤ length (now s) ⌝ }
     ensures { λ r. ⌜ now r ≡ textAt (now (s .entry)) o ⌝ }
 {
-    let n = wide(s[o]) * 256 + wide(s[o + 1]);
+    let n = number(s, o);
     let a = o + 2;
     let e = a + n;
     &s[a..e]
@@ -497,14 +505,12 @@ fn all_placed(counts: &[u16; 2048], rows: usize, start: usize) -> Field
     Field::Is(0)
 }
 
-// A 4-byte number that lies in the image.
-fn priority(s: &[u8], at: usize) -> usize
+// Four bytes of the image, as a number: the priority of the criterion at a place.
+pub fn priority(s: &[u8], at: usize) -> usize
     requires { ⌜ at + 4 ≤ length (now s) ⌝ }
-    ensures { λ r. ⌜ r ≡ long (now (s .entry)) at ⌝ }
+    ensures { λ r. ⌜ (r ≡ long (now (s .entry)) at) × (r < 4294967296) ⌝ }
 {
-    let high = wide(s[at]) * 256 + wide(s[at + 1]);
-    let low = wide(s[at + 2]) * 256 + wide(s[at + 2 + 1]);
-    high * 65536 + low
+    number(s, at) * 65536 + number(s, at + 2)
 }
 
 fn long_at(s: &[u8], at: usize) -> Field
@@ -805,14 +811,6 @@ fn judge_image(s: &[u8], table: &mut [u16; 1024]) -> Judged
 }
 
 // ---- the parts of an accepted image, by value
-
-// Two bytes of the image, as a number.
-pub fn number(s: &[u8], at: usize) -> usize
-    requires { ⌜ at + 2 ≤ length (now s) ⌝ }
-    ensures { λ r. ⌜ (r ≡ word (now (s .entry)) at) × (r < 65536) ⌝ }
-{
-    wide(s[at]) * 256 + wide(s[at + 1])
-}
 
 pub fn read_row(s: &[u8], at: usize) -> Row
     requires { ⌜ (at + 7 ≤ length (now s)) × (length (now s) ≤ 32768) ⌝ }

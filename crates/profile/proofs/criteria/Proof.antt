@@ -60,7 +60,7 @@ loop-less c = search needs
 loop-again : tie.Need-loop-again Inv-loop μ-loop Inv-scan μ-scan
 loop-again c =
     let hd = c .before .before .before in
-    (omega arith, earlier-not _ _ _ _ _ (hd .loop .inv .1) (c .before .priority .ensures) (c .if1 .left), hd .loop .inv .2)
+    (omega arith, earlier-not _ _ _ _ _ (hd .loop .inv .1) (c .before .priority .ensures .0) (c .if1 .left), hd .loop .inv .2)
 
 rest-at-requires : tie.Need-rest-at-requires Inv-loop μ-loop Inv-scan μ-scan
 rest-at-requires c κs = search needs
@@ -97,7 +97,7 @@ scan-again c =
 returns-3 : tie.Need-returns-3 Inv-loop μ-loop Inv-scan μ-scan
 returns-3 c =
     ⊎-elim (λ w. cc)
-    (λ w. let hd = c .before .before .scan .inv .0 in crit-repeat _ _ _ _ _ _ _ hd (w .0 .taken) _ (w .1 .ensures) _ (w .3 .given .1) (earlier-found _ _ _ _ _ _ (w .6 .taken) (w .7 .ensures) (w .8 .taken)))
+    (λ w. let hd = c .before .before .scan .inv .0 in crit-repeat _ _ _ _ _ _ _ hd (w .0 .taken) _ (w .1 .ensures) _ (w .3 .given .1) (earlier-found _ _ _ _ _ _ (w .6 .taken) (w .7 .ensures .0) (w .8 .taken)))
     (c .before .scan-test .came)
 
 returns-4 : tie.Need-returns-4 Inv-loop μ-loop Inv-scan μ-scan
