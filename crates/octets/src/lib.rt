@@ -289,6 +289,13 @@ pub fn byte_at(s: &[u8], i: usize) -> u8
     0
 }
 
+// A place that is kept in two bytes, as an index.
+pub fn as_index(w: u16) -> usize
+    ensures { λ r. ⌜ r ≡ w ⌝ }
+{
+    w as usize
+}
+
 pub fn lower_of(b: u8) -> u8
     ensures { λ r. ⌜ r ≡ lower b ⌝ }
 {

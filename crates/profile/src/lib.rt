@@ -115,12 +115,6 @@ fn wide(b: u8) -> usize
     b as usize
 }
 
-pub fn wide16(w: u16) -> usize
-    ensures { λ r. ⌜ r ≡ w ⌝ }
-{
-    w as usize
-}
-
 // Two bytes of the image, as a number.
 pub fn number(s: &[u8], at: usize) -> usize
     requires { ⌜ at + 2 ≤ length (now s) ⌝ }
@@ -281,7 +275,7 @@ fn index_at(s: &[u8], table: &[u16; 1024], n: usize, purpose: usize, at: usize) 
                     place: at,
                 };
             }
-            let o = wide16(table[i]);
+            let o = octets::as_index(table[i]);
             let t = text(s, o);
             if fits_use(t, purpose) {
                 Field::Is(i)
@@ -486,7 +480,7 @@ fn all_placed(counts: &[u16; 2048], rows: usize, start: usize) -> Field
     let mut at = start;
     let mut k: usize = 0;
     while k < rows {
-        let c = wide16(counts[k]);
+        let c = octets::as_index(counts[k]);
         if c < 1 {
             return Field::Refused {
                 number: 4,
@@ -913,5 +907,5 @@ pub fn string_bytes<'a, 'b>(s: &'a [u8], table: &'b [u16; 1024], n: usize, i: us
     if n <= i {
         return &s[..0];
     }
-    text(s, wide16(table[i]))
+    text(s, octets::as_index(table[i]))
 }

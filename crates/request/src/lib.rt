@@ -368,19 +368,13 @@ pub fn read(s: &[u8], starts: &mut [u16], colons: &mut [u16]) -> Reading
 
 // ---- one field
 
-fn wide(x: u16) -> usize
-    ensures { λ r. ⌜ r ≡ x ⌝ }
-{
-    x as usize
-}
-
 // Where the line of field i ends: two bytes before the next one starts, or with the head.
 fn field_end(starts: &[u16], head: usize, fields: usize, i: usize) -> usize
     requires { ⌜ (i < fields) × (fields ≤ length (now starts)) × ((i + 1 < fields) → 2 ≤ getD (now starts) (i + 1) 0) ⌝ }
     ensures { λ r. ⌜ r ≡ pick (ltb (i + 1) fields) (getD (now (starts .entry)) (i + 1) 0 - 2) head ⌝ }
 {
     if i + 1 < fields {
-        return wide(starts[i + 1]) - 2;
+        return octets::as_index(starts[i + 1]) - 2;
     }
     head
 }
@@ -405,8 +399,8 @@ pub fn field_at(
     requires { ⌜ Indexed (now s) (now starts) (now colons) head fields i ⌝ }
     ensures { λ r. ⌜ r ≡ field-parts (head-of (now (s .entry))) i ⌝ }
 {
-    let a = wide(starts[i]);
-    let k = wide(colons[i]);
+    let a = octets::as_index(starts[i]);
+    let k = octets::as_index(colons[i]);
     let n = trimmed_end(&s[a..k]);
     let e = field_end(starts, head, fields, i);
     FieldParts {

@@ -8,23 +8,23 @@ use Rattle.lookups.proofs.stored_part.Tie as tie
 returns : tie.Need-returns
 returns c = search part-none
 
-mul-wide16 : tie.Need-mul-wide16
-mul-wide16 c = search needs
+mul-as-index : tie.Need-mul-as-index
+mul-as-index c = search needs
 
-element-copy-out-wide16 : tie.Need-element-copy-out-wide16
-element-copy-out-wide16 c = search needs
+element-copy-out-as-index : tie.Need-element-copy-out-as-index
+element-copy-out-as-index c = search needs
 
-wide16-requires : tie.Need-wide16-requires
-wide16-requires c κs = search needs
+as-index-requires : tie.Need-as-index-requires
+as-index-requires c κs = search needs
 
 number-requires : tie.Need-number-requires
 number-requires c κs = search part-room
 
 add-t8 : tie.Need-add-t8
-add-t8 c = omega (arith, part-room _ _ _ (c .before .before .before .before .before .pre .0) _ _ (c .before .before .before .if1 .left) (c .before .wide16 .ensures))
+add-t8 c = omega (arith, part-room _ _ _ (c .before .before .before .before .before .pre .0) _ _ (c .before .before .before .if1 .left) (c .before .as-index .ensures))
 
 cast-t12 : tie.Need-cast-t12
-cast-t12 c = omega (arith, part-room _ _ _ (c .before .before .before .before .before .pre .0) _ _ (c .before .before .before .if1 .left) (c .before .wide16 .ensures))
+cast-t12 c = omega (arith, part-room _ _ _ (c .before .before .before .before .before .pre .0) _ _ (c .before .before .before .if1 .left) (c .before .as-index .ensures))
 
 cast-t13 : tie.Need-cast-t13
 cast-t13 c = search needs
@@ -37,9 +37,9 @@ stored-part-spec =
     tie.close
     (tie.spec
     returns
-    mul-wide16
-    element-copy-out-wide16
-    wide16-requires
+    mul-as-index
+    element-copy-out-as-index
+    as-index-requires
     number-requires
     add-t8
     cast-t12

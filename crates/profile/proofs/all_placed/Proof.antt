@@ -14,14 +14,14 @@ abbrev μ-loop : tie.MeasureT-loop
 loop-holds : tie.Need-loop-holds Inv-loop μ-loop
 loop-holds c = placed-first _ _ _
 
-mul-wide16 : tie.Need-mul-wide16 Inv-loop μ-loop
-mul-wide16 c = search needs
+mul-as-index : tie.Need-mul-as-index Inv-loop μ-loop
+mul-as-index c = search needs
 
-element-copy-out-wide16 : tie.Need-element-copy-out-wide16 Inv-loop μ-loop
-element-copy-out-wide16 c = search needs
+element-copy-out-as-index : tie.Need-element-copy-out-as-index Inv-loop μ-loop
+element-copy-out-as-index c = search needs
 
-wide16-requires : tie.Need-wide16-requires Inv-loop μ-loop
-wide16-requires c κs = search needs
+as-index-requires : tie.Need-as-index-requires Inv-loop μ-loop
+as-index-requires c κs = search needs
 
 returns : tie.Need-returns Inv-loop μ-loop
 returns c = search placed-none
@@ -51,9 +51,9 @@ all-placed-spec =
     Inv-loop
     μ-loop
     loop-holds
-    mul-wide16
-    element-copy-out-wide16
-    wide16-requires
+    mul-as-index
+    element-copy-out-as-index
+    as-index-requires
     returns
     returns-2
     add-at

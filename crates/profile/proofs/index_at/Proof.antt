@@ -12,14 +12,14 @@ enum-known-i c = search needs
 returns : tie.Need-returns
 returns c = search uses
 
-mul-wide16 : tie.Need-mul-wide16
-mul-wide16 c = search needs
+mul-as-index : tie.Need-mul-as-index
+mul-as-index c = search needs
 
-element-copy-out-wide16 : tie.Need-element-copy-out-wide16
-element-copy-out-wide16 c = search needs
+element-copy-out-as-index : tie.Need-element-copy-out-as-index
+element-copy-out-as-index c = search needs
 
-wide16-requires : tie.Need-wide16-requires
-wide16-requires c κs = search needs
+as-index-requires : tie.Need-as-index-requires
+as-index-requires c κs = search needs
 
 text-requires : tie.Need-text-requires
 text-requires c κs = search uses
@@ -46,9 +46,9 @@ index-at-spec =
     word-at-requires
     enum-known-i
     returns
-    mul-wide16
-    element-copy-out-wide16
-    wide16-requires
+    mul-as-index
+    element-copy-out-as-index
+    as-index-requires
     text-requires
     fits-use-requires
     enum-known-number

@@ -10,14 +10,14 @@ slice-aggregate-result c = search needs
 returns : tie.Need-returns
 returns c = search bytes-none
 
-mul-wide16 : tie.Need-mul-wide16
-mul-wide16 c = search needs
+mul-as-index : tie.Need-mul-as-index
+mul-as-index c = search needs
 
-element-copy-out-wide16 : tie.Need-element-copy-out-wide16
-element-copy-out-wide16 c = search needs
+element-copy-out-as-index : tie.Need-element-copy-out-as-index
+element-copy-out-as-index c = search needs
 
-wide16-requires : tie.Need-wide16-requires
-wide16-requires c κs = search needs
+as-index-requires : tie.Need-as-index-requires
+as-index-requires c κs = search needs
 
 text-requires : tie.Need-text-requires
 text-requires c κs = search inside-at
@@ -31,8 +31,8 @@ string-bytes-spec =
     (tie.spec
     slice-aggregate-result
     returns
-    mul-wide16
-    element-copy-out-wide16
-    wide16-requires
+    mul-as-index
+    element-copy-out-as-index
+    as-index-requires
     text-requires
     returns-2)

@@ -7,20 +7,20 @@ use Rattle.request.proofs.field_end.Tie as tie
 add-if1 : tie.Need-add-if1
 add-if1 c = search needs
 
-add-wide : tie.Need-add-wide
-add-wide c = search needs
+add-as-index : tie.Need-add-as-index
+add-as-index c = search needs
 
-mul-wide : tie.Need-mul-wide
-mul-wide c = search needs
+mul-as-index : tie.Need-mul-as-index
+mul-as-index c = search needs
 
-shared-slice-read-wide : tie.Need-shared-slice-read-wide
-shared-slice-read-wide c = search needs
+shared-slice-read-as-index : tie.Need-shared-slice-read-as-index
+shared-slice-read-as-index c = search needs
 
-wide-requires : tie.Need-wide-requires
-wide-requires c κs = search needs
+as-index-requires : tie.Need-as-index-requires
+as-index-requires c κs = search needs
 
 sub-result : tie.Need-sub-result
-sub-result c = omega (arith, c .before .before .before .before .pre .2 (c .before .before .if1 .taken), c .wide .ensures)
+sub-result c = omega (arith, c .before .before .before .before .pre .2 (c .before .before .if1 .taken), c .as-index .ensures)
 
 returns : tie.Need-returns
 returns c = search end-by-next
@@ -33,10 +33,10 @@ field-end-spec =
     tie.close
     (tie.spec
     add-if1
-    add-wide
-    mul-wide
-    shared-slice-read-wide
-    wide-requires
+    add-as-index
+    mul-as-index
+    shared-slice-read-as-index
+    as-index-requires
     sub-result
     returns
     returns-2)
