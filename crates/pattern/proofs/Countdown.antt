@@ -17,10 +17,10 @@ use Rattle.pattern.specs.Places.{items-of, body-of}
 use Rattle.pattern.specs.Reading.{elem, Read, read, class-opens, range-opens, range, single, begins-item, item, items, bracket, escaped, asterisk, atom, Body, body}
 
 -- what is left is no longer than s
-abbrev Within : {A : Type 0} → List ℕ → Option (Read A) → Type 0
+abbrev pub Within : {A : Type 0} → List ℕ → Option (Read A) → Type 0
 Within s o = Ok (λ r. length (r .rest) ≤ length s) o
 
-drop-le : (k : ℕ) (s : List ℕ) → length (drop k s) ≤ length s
+pub drop-le : (k : ℕ) (s : List ℕ) → length (drop k s) ≤ length s
 drop-le k s = omega (arith, length-drop k s)
 
 -- what any test lets through
@@ -86,7 +86,7 @@ bracket-within s = go (pick (eqb (peek s) 94) (drop 1 s) s) (either (λ (k : Lis
         ok-then (λ (r : Read Atom). length (r .rest) ≤ length s) (λ (r : Read (List Range)). length (r .rest) ≤ length inner) (items (suc (length inner)) true inner) _
         (items-within (suc (length inner)) true inner) (λ l k. omega (arith, h, k))
 
-atom-within : (first : Bool) (b : ℕ) (s : List ℕ) → Within s (atom first b s)
+pub atom-within : (first : Bool) (b : ℕ) (s : List ℕ) → Within s (atom first b s)
 atom-within first b s =
     either (Within s) (eqb b 46) (read dot s) _ (le-refl (length s))
     (either (Within s) (eqb b 91) (bracket s) _ (bracket-within s)

@@ -17,6 +17,7 @@ use Rattle.machine.proofs.Places.{drop-at, empty-at}
 use Rattle.pattern.specs.Answers.{was-read, is-pattern}
 use Rattle.pattern.specs.Pattern.{Atom, Elem, Pattern}
 use Rattle.pattern.specs.Places.{map-got, body-of, PieceAt}
+use Rattle.pattern.specs.Prepared.{starred, atom-of}
 use Rattle.pattern.specs.Reading.{Read, atom, elem, Body, read-pattern}
 use Rattle.pattern.specs.Drawn.{drawn}
 use Rattle.pattern.specs.declared.reader.Piece.{Piece}
@@ -45,9 +46,19 @@ behind-after t e j q = subst⁻¹ (λ (k : ℕ). e ≤ k) q (behind-ge t e)
 pub behind-at : (s : List ℕ) (e next j : ℕ) → next ≡ peek (drop e s) → j ≡ pick (eqb next 42) (e + 1) e → j ≡ pick (eqb (peek (drop e s)) 42) (e + 1) e
 behind-at s e next j n q = q ∙ ap (λ (k : ℕ). pick (eqb k 42) (e + 1) e) n
 
-behind-drop : (t : Bool) (s : List ℕ) (e : ℕ) → pick t (drop 1 (drop e s)) (drop e s) ≡ drop (pick t (e + 1) e) s
+pub behind-drop : (t : Bool) (s : List ℕ) (e : ℕ) → pick t (drop 1 (drop e s)) (drop e s) ≡ drop (pick t (e + 1) e) s
 behind-drop true s e = drop-drop 1 e s
 behind-drop false s e = refl
+
+-- ---- an element's parts
+
+pub starred-elem : (t : Bool) (x : Atom) → starred (elem t x) ≡ t
+starred-elem true x = refl
+starred-elem false x = refl
+
+pub atom-elem : (t : Bool) (x : Atom) → atom-of (elem t x) ≡ x
+atom-elem true x = refl
+atom-elem false x = refl
 
 -- ---- the elements from i on
 

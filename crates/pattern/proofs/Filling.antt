@@ -22,7 +22,7 @@ use Rattle.pattern.specs.Reading.{atom, elem, Body, read-pattern}
 use Rattle.pattern.specs.Drawn.{drawn}
 use Rattle.pattern.specs.declared.edition1.Marks.{Marks}
 use Rattle.pattern.specs.declared.reader.Piece.{Piece}
-use Rattle.pattern.proofs.Elements.{with-elem, Step, body-end, body-last, body-lost, body-more, start-of, finished, read-is, start-le, behind-le, count-empty}
+use Rattle.pattern.proofs.Elements.{with-elem, Step, body-end, body-last, body-lost, body-more, start-of, finished, read-is, start-le, behind-le, count-empty, starred-elem, atom-elem}
 use Rattle.pattern.proofs.Positions.{at-bit, befores-length}
 
 -- ---- what was read
@@ -176,14 +176,6 @@ module _ (fold : Bool) (s : List ℕ) (w : Whole s) (old-sets : List (List ℕ))
             sym (g .left ∙ ap (with-elem (elem repeats (g .value))) q) ∙ f .reads
             in
             record { value = g .value; more = more; drawing = g .drawing; reads = q; is = cc }
-
-    starred-elem : (t : Bool) (x : Atom) → starred (elem t x) ≡ t
-    starred-elem true x = refl
-    starred-elem false x = refl
-
-    atom-elem : (t : Bool) (x : Atom) → atom-of (elem t x) ≡ x
-    atom-elem true x = refl
-    atom-elem false x = refl
 
     pub fill-room : m .at < 60
     fill-room =

@@ -7,6 +7,7 @@ pub mod Drawing
 pub mod Elements
 pub mod Filling
 pub mod Finding
+pub mod Front
 pub mod Items
 pub mod Listing
 pub mod Loading

@@ -18,8 +18,9 @@ use Rattle.pattern.specs.Reading.{atom, read-pattern}
 use Rattle.pattern.specs.Drawn.{drawn}
 use Rattle.pattern.specs.declared.edition1.Marks.{Marks}
 use Rattle.pattern.specs.declared.reader.Piece.{Piece}
-use Rattle.pattern.proofs.Elements.{start-of, Counted, count-start, count-last, count-lost, count-more, count-many, count-done}
+use Rattle.pattern.proofs.Elements.{start-of, Counted, count-empty, count-start, count-last, count-lost, count-more, count-many, count-done}
 use Rattle.pattern.proofs.Positions.{at-bit}
+use Rattle.pattern.proofs.Front.{Stands, Storing, stands-empty, stands-end, stands-last, stands-lost, stands-many, store-start, store-more}
 use Rattle.pattern.proofs.Filling.{Fills, fill-start, fill-end, fill-last, fill-more, prepare-refused, prepare-on, prepared-ready}
 
 module _ (fold : Bool) (s : List ℕ) (old-sets : List (List ℕ)) (old-before : List ℕ) where
@@ -27,24 +28,30 @@ module _ (fold : Bool) (s : List ℕ) (old-sets : List (List ℕ)) (old-before :
   pub record Loading (i : ℕ) (first : Bool) (m : Marks) (ss : List (List ℕ)) (bs : List ℕ) : Type 0 where
     pub counts : Counted s i first (m .at)
     pub fills : is-pattern s ≡ true → Fills fold s old-sets old-before i first m ss bs
+    pub stores : Storing fold s old-sets old-before i first m ss bs
     pub low : m .at ≤ 60
     pub room-sets : length ss ≡ 60
     pub room-before : length bs ≡ 60
 
   -- no pattern: the lent places are taken for what they hold
-  pub load-refused : (h : Shape) (ss : List (List ℕ)) (bs : List ℕ) → false ≡ is-pattern s → h ≡ no-shape → length ss ≡ 60 → length bs ≡ 60
-      → Loaded fold s h old-sets ss old-before bs
-  load-refused h ss bs e z ls lb =
+  load-refused : (h : Shape) (ss : List (List ℕ)) (bs : List ℕ) → false ≡ is-pattern s → h ≡ no-shape → length ss ≡ 60 → length bs ≡ 60
+      → Stands fold s old-sets old-before ss bs → Loaded fold s h old-sets ss old-before bs
+  load-refused h ss bs e z ls lb st =
       record {
+        stored-sets = st .sets-are;
+        stored-before = st .before-are;
         ready = prepared-ready fold s h ss ss bs bs (prepare-refused fold s h ss bs false e refl z ls lb);
         prepared = λ y. absurd (true≢false (sym y ∙ sym e));
       }
 
+  pub load-empty : (h : Shape) → length s ≡ 0 → h ≡ no-shape → length old-sets ≡ 60 → length old-before ≡ 60 → Loaded fold s h old-sets old-sets old-before old-before
+  load-empty h e z ls lb = load-refused h old-sets old-before (count-empty s e) z ls lb (stands-empty fold s old-sets old-before e)
+
   load-filled : (h : Shape) (next : ℕ) (m : Marks) (right : Bool) (ss : List (List ℕ)) (bs : List ℕ) → is-pattern s ≡ true → next ≡ peek s
-      → FilledFor fold (read-pattern s) m right old-sets ss old-before bs → h ≡ shape-by m (eqb next 94) right → Loaded fold s h old-sets ss old-before bs
-  load-filled h next m right ss bs y q g z =
+      → FilledFor fold (read-pattern s) m right old-sets ss old-before bs → h ≡ shape-by m (eqb next 94) right → Stands fold s old-sets old-before ss bs → Loaded fold s h old-sets ss old-before bs
+  load-filled h next m right ss bs y q g z st =
       let p = prepare-on fold s h old-sets old-before true (sym y) ss bs next m right refl q g z in
-      record { ready = prepared-ready fold s h old-sets ss old-before bs p; prepared = λ x. p }
+      record { ready = prepared-ready fold s h old-sets ss old-before bs p; prepared = λ x. p; stored-sets = st .sets-are; stored-before = st .before-are }
 
   module _ (ls : length old-sets ≡ 60) (lb : length old-before ≡ 60) where
     pub load-start : (i : ℕ) (m : Marks) → (length s ≡ 0 → ⊥) → i ≡ start-of s → m ≡ no-marks → Loading i true m old-sets old-before
@@ -53,6 +60,7 @@ module _ (fold : Bool) (s : List ℕ) (old-sets : List (List ℕ)) (old-before :
         (record {
           counts = count-start s i n e;
           fills = λ y. fill-start fold s old-sets old-before i y ls lb e;
+          stores = store-start fold s old-sets old-before i no-marks e refl;
           low = omega arith;
           room-sets = ls;
           room-before = lb;
@@ -64,6 +72,7 @@ module _ (fold : Bool) (s : List ℕ) (old-sets : List (List ℕ)) (old-before :
           let y : is-pattern s ≡ true = sym (count-done s i first (m .at) (l .counts) k) ∙ le-leb (m .at) 60 (l .low) in
           let f = l .fills y in
           load-filled h next m false ss bs y q (fill-end fold s (f .0) old-sets old-before ls lb i first m ss bs (f .1) k) z
+          (stands-end fold s old-sets old-before i first m ss bs (l .stores) k)
 
       module _ (k : i < length s) (t : Bool) (et : t ≡ (eqb (getD s i 0) 36 && eqb (i + 1) (length s))) where
         pub load-last : t ≡ true → (h : Shape) (next : ℕ) → next ≡ peek s → h ≡ shape-by m (eqb next 94) true → Loaded fold s h old-sets ss old-before bs
@@ -71,10 +80,12 @@ module _ (fold : Bool) (s : List ℕ) (old-sets : List (List ℕ)) (old-before :
             let y : is-pattern s ≡ true = sym (count-last s i first (m .at) (l .counts) k t et e) ∙ le-leb (m .at) 60 (l .low) in
             let f = l .fills y in
             load-filled h next m true ss bs y q (fill-last fold s (f .0) old-sets old-before ls lb i first m ss bs (f .1) k (sym et ∙ e)) z
+            (stands-last fold s old-sets old-before i first m ss bs (l .stores) k (sym et ∙ e))
 
         module _ (r : Piece) (a : PieceAt (map-got (drawn true) (atom first (getD s i 0) (drop (i + 1) s))) s i r) (e : t ≡ false) where
           pub load-lost : r .end ≡ 0 → (h : Shape) → h ≡ no-shape → Loaded fold s h old-sets ss old-before bs
           load-lost z h q = load-refused h ss bs (count-lost s i first (m .at) (l .counts) k true r a t et e z) q (l .room-sets) (l .room-before)
+              (stands-lost fold s old-sets old-before i first m ss bs (l .stores) k r a (sym et ∙ e) z)
 
           module _ (n : r .end ≡ 0 → ⊥) where
             abbrev repeats : Bool
@@ -88,6 +99,7 @@ module _ (fold : Bool) (s : List ℕ) (old-sets : List (List ℕ)) (old-before :
 
             pub load-many : m .at ≡ 60 → (h : Shape) → h ≡ no-shape → Loaded fold s h old-sets ss old-before bs
             load-many full h q = load-refused h ss bs (count-many s j false (m .at + 1) (counts-on j refl) (omega arith)) q (l .room-sets) (l .room-before)
+                (stands-many fold s old-sets old-before i first m ss bs (l .stores) full (l .room-sets) (l .room-before))
 
             pub load-room : (m .at ≡ 60 → ⊥) → m .at < 60
             load-room free = let w : m .at ≤ 60 = l .low in omega arith
@@ -100,6 +112,7 @@ module _ (fold : Bool) (s : List ℕ) (old-sets : List (List ℕ)) (old-before :
                   counts = counts-at i′ ei (m′ .at) one;
                   fills = λ y. let f = l .fills y in
                       (f .0, fill-more fold s (f .0) old-sets old-before ls lb i first m ss bs (f .1) k r a (sym et ∙ e) i′ m′ u v b eu eb ei em ev);
+                  stores = store-more fold s old-sets old-before i first m ss bs (l .stores) k r a (sym et ∙ e) n i′ m′ u v b eu eb ei em ev;
                   low = omega (arith, load-room free);
                   room-sets = length-set ss (m .at) u ∙ l .room-sets;
                   room-before = length-set bs (m .at) v ∙ l .room-before;

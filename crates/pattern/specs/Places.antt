@@ -7,8 +7,8 @@ use Prim.Native.Nat.{ℕ, suc, _≤_, _<_}
 use lib.Dec.{eqb}
 use lib.ListN.{length, drop}
 use Rattle.octets.specs.Lists.{pick}
-use Rattle.pattern.specs.Pattern.{Range}
-use Rattle.pattern.specs.Reading.{Read, read, items, Body, body}
+use Rattle.pattern.specs.Pattern.{Range, Elem}
+use Rattle.pattern.specs.Reading.{Read, read, items, Body, body, front}
 use Rattle.pattern.specs.declared.reader.Item.{Item}
 use Rattle.pattern.specs.declared.reader.Piece.{Piece}
 
@@ -23,6 +23,9 @@ items-of first s = items (suc (length s)) first s
 
 abbrev pub body-of : Bool → List ℕ → Option Body
 body-of first s = body (suc (length s)) first s
+
+abbrev pub front-of : Bool → List ℕ → List Elem
+front-of first s = front (suc (length s)) first s
 
 -- a range and what is left from `end` on; 0 says refused
 abbrev pub item-read : List ℕ → Item → Option (Read Range)

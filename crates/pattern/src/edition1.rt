@@ -144,8 +144,8 @@ fn no_marks() -> Marks
     }
 }
 
-// Reads a pattern into the lent places in one go, element by element. A refused one gives a machine that takes no part; what the
-// lent places then hold is of no use.
+// Reads a pattern into the lent places in one go, element by element. A refused one gives a machine that takes no part; the lent
+// places then hold its elements up to the first fault, and are of no use.
 pub fn load(s: &[u8], fold: bool, sets: &mut [[u64; 4]; 60], before: &mut [u64; 60]) -> Shape
     requires { ⌜ (length (now sets) ≡ 60) × (length (now before) ≡ 60) ⌝ }
     ensures { λ r. ⌜ Loaded fold (now (s .entry)) r (now (sets .entry)) (now (sets .exit)) (now (before .entry)) (now (before .exit)) ⌝ }

@@ -1,6 +1,6 @@
 use borrow.Author.Needs.{needs}
-use Rattle.pattern.proofs.Loading.{Loading, load-refused, load-start, load-end, load-last, load-lost, load-many, load-room, load-more}
-use Rattle.pattern.proofs.Elements.{behind-after, behind-at, count-empty}
+use Rattle.pattern.proofs.Loading.{Loading, load-empty, load-start, load-end, load-last, load-lost, load-many, load-room, load-more}
+use Rattle.pattern.proofs.Elements.{behind-after, behind-at}
 use lib.ListN.{length}
 use lib.Dec.{eqb}
 use Prim.Native.Nat.{ℕ, _-_, _≤_}
@@ -19,7 +19,7 @@ no-shape-requires : tie.Need-no-shape-requires Inv-loop μ-loop
 no-shape-requires c κs = search needs
 
 returns : tie.Need-returns Inv-loop μ-loop
-returns c = load-refused _ _ _ _ _ _ _ (search count-empty) (c .no-shape .ensures) (search needs) (search needs)
+returns c = load-empty _ _ _ _ _ (c .before .if1 .taken) (c .no-shape .ensures) (search needs) (search needs)
 
 peek-at-requires : tie.Need-peek-at-requires Inv-loop μ-loop
 peek-at-requires c κs = search needs

@@ -1,0 +1,177 @@
+-- What stands in the lent places wherever the reading of a string stops: its elements up to there, one after the other.
+use mathlib.Core.Path.{_≡_, refl, sym, ap, ap₂, _∙_, subst⁻¹}
+use mathlib.Core.Bool.{Bool, true, false, _&&_}
+use mathlib.Core.Option.{Option, none, some}
+use mathlib.Core.List.{List, [], _∷_}
+use Prim.Native.Nat.{ℕ, zero, suc, _+_, _<_, _≤_}
+use native.Mathlib.Nat.{not-suc-le-zero}
+use native.Mathlib.Numerals.{add-one}
+use native.Mathlib.Omega.{arith}
+use lib.Dec.{eqb}
+use lib.ListN.{length, getD, drop, drop-of-length-le, set}
+use lib.Seq.{sets}
+use Rattle.octets.specs.Lists.{pick, peek, empty}
+use Rattle.octets.proofs.Tests.{either}
+use Rattle.machine.proofs.Places.{drop-at, empty-at}
+use Rattle.pattern.specs.Drawn.{drawn}
+use Rattle.pattern.specs.Pattern.{Atom, Elem}
+use Rattle.pattern.specs.Places.{map-got, front-of, PieceAt}
+use Rattle.pattern.specs.Prepared.{starred, atom-of, no-marks, mark, before-at, set-as, sets-of, befores, read-front}
+use Rattle.pattern.specs.Reading.{Read, atom, elem, front-from, front}
+use Rattle.pattern.specs.declared.edition1.Marks.{Marks}
+use Rattle.pattern.specs.declared.reader.Piece.{Piece}
+use Rattle.pattern.proofs.Atoms.{piece-found, piece-lost, map-none, map-some}
+use Rattle.pattern.proofs.Countdown.{Within, drop-le, atom-within}
+use Rattle.pattern.proofs.Elements.{start-of, behind-drop, starred-elem, atom-elem}
+
+-- ---- the number only counts down
+
+from-ext : (s : List ℕ) (f g : List ℕ → List Elem) → ((t : List ℕ) → length t ≤ length s → f t ≡ g t) → (o : Option (Read Atom)) → Within s o
+    → front-from f o ≡ front-from g o
+from-ext s f g e none h = refl
+from-ext s f g e (some a) h =
+    ap (λ (l : List Elem). elem (eqb (peek (a .rest)) 42) (a .got) ∷ l)
+    (e (pick (eqb (peek (a .rest)) 42) (drop 1 (a .rest)) (a .rest))
+    (either (λ (l : List ℕ). length l ≤ length s) (eqb (peek (a .rest)) 42) (drop 1 (a .rest)) (a .rest) (omega (arith, h, drop-le 1 (a .rest))) h))
+
+front-fuel : (n m : ℕ) (first : Bool) (s : List ℕ) → length s < n → length s < m → front n first s ≡ front m first s
+unfolding front
+front-fuel zero m first s hn hm = absurd (not-suc-le-zero hn)
+front-fuel (suc n) zero first s hn hm = absurd (not-suc-le-zero hm)
+front-fuel (suc n) (suc m) first [] hn hm = refl
+front-fuel (suc n) (suc m) first (b ∷ s) hn hm =
+    ap (λ (l : List Elem). pick (eqb b 36 && empty s) [] l)
+    (from-ext s (λ t. front n false t) (λ t. front m false t) (λ t k. front-fuel n m false t (omega (arith, k, hn)) (omega (arith, k, hm))) (atom first b s) (atom-within first b s))
+
+front-next : (first : Bool) (b : ℕ) (s : List ℕ) → front-of first (b ∷ s) ≡ pick (eqb b 36 && empty s) [] (front-from (λ t. front-of false t) (atom first b s))
+unfolding front
+front-next first b s =
+    ap (λ (l : List Elem). pick (eqb b 36 && empty s) [] l)
+    (from-ext s (λ t. front (suc (length s)) false t) (λ t. front-of false t) (λ t k. front-fuel (suc (length s)) (suc (length t)) false t (omega (arith, k)) (omega arith)) (atom first b s) (atom-within first b s))
+
+-- ---- by place
+
+front-end : (s : List ℕ) (i : ℕ) (first : Bool) → length s ≤ i → front-of first (drop i s) ≡ []
+unfolding front
+front-end s i first h = ap (front-of first) (drop-of-length-le s h)
+
+-- the element at i, and those behind it
+record Ahead (s : List ℕ) (i : ℕ) (first : Bool) (end : ℕ) (set : List ℕ) : Type 0 where
+  value : Atom
+  drawing : drawn true value ≡ set
+  left : front-of first (drop i s) ≡ elem (eqb (peek (drop end s)) 42) value ∷ front-of false (drop (pick (eqb (peek (drop end s)) 42) (end + 1) end) s)
+
+module _ (s : List ℕ) (i : ℕ) (first : Bool) (h : i < length s) where
+  abbrev b : ℕ
+  b = getD s i 0
+
+  abbrev rest : List ℕ
+  rest = drop (i + 1) s
+
+  here-is : (t : Bool) → (eqb b 36 && eqb (i + 1) (length s)) ≡ t → front-of first (drop i s) ≡ pick t [] (front-from (λ u. front-of false u) (atom first b rest))
+  here-is t e =
+      ap (front-of first) (drop-at s i h) ∙ front-next first b rest
+      ∙ ap (λ (x : Bool). pick x [] (front-from (λ u. front-of false u) (atom first b rest)))
+      (ap (λ (x : Bool). eqb b 36 && x) (empty-at s (i + 1) (omega arith)) ∙ e)
+
+  module _ (r : Piece) (a : PieceAt (map-got (drawn true) (atom first b rest)) s i r) (e : (eqb b 36 && eqb (i + 1) (length s)) ≡ false) where
+    front-lost : r .end ≡ 0 → front-of first (drop i s) ≡ []
+    front-lost z = here-is false e ∙ ap (front-from (λ u. front-of false u)) (map-none (drawn true) (atom first b rest) (piece-lost a z))
+
+    front-more : (r .end ≡ 0 → ⊥) → Ahead s i first (r .end) (r .set)
+    front-more n =
+        let g = map-some (drawn true) (atom first b rest) (r .set) (drop (r .end) s) (piece-found a n) in
+        record {
+          value = g .value;
+          drawing = g .drawing;
+          left =
+              here-is false e ∙ ap (front-from (λ u. front-of false u)) (g .is)
+              ∙ ap (λ (l : List ℕ). elem (eqb (peek (drop (r .end) s)) 42) (g .value) ∷ front-of false l) (behind-drop (eqb (peek (drop (r .end) s)) 42) s (r .end));
+        }
+
+-- ---- stores past the end
+
+set-past : {A : Type 0} (l : List A) (k : ℕ) (x : A) → length l ≤ k → set l k x ≡ l
+set-past [] k x h = refl
+set-past (y ∷ l) zero x h = absurd (not-suc-le-zero h)
+set-past (y ∷ l) (suc k) x h = ap (λ (t : List _). y ∷ t) (set-past l k x (omega arith))
+
+sets-past : {A : Type 0} (vs l : List A) (k : ℕ) → length l ≤ k → sets l k vs ≡ l
+sets-past [] l k h = refl
+sets-past (x ∷ vs) l k h =
+    ap (λ (t : List _). sets t (suc k) vs) (set-past l k x h) ∙ sets-past vs l (suc k) (omega arith)
+
+-- ---- the lent places
+
+module _ (fold : Bool) (s : List ℕ) (old-sets : List (List ℕ)) (old-before : List ℕ) where
+  -- what they hold where the reading stops
+  pub record Stands (ss : List (List ℕ)) (bs : List ℕ) : Type 0 where
+    pub sets-are : ss ≡ sets old-sets 0 (sets-of fold (read-front s))
+    pub before-are : bs ≡ sets old-before 0 (befores no-marks (read-front s))
+
+  -- and before: once the elements from i on are stored, too
+  pub record Storing (i : ℕ) (first : Bool) (m : Marks) (ss : List (List ℕ)) (bs : List ℕ) : Type 0 where
+    pub sets-on : sets ss (m .at) (sets-of fold (front-of first (drop i s))) ≡ sets old-sets 0 (sets-of fold (read-front s))
+    pub before-on : sets bs (m .at) (befores m (front-of first (drop i s))) ≡ sets old-before 0 (befores no-marks (read-front s))
+
+  pub stands-empty : length s ≡ 0 → Stands old-sets old-before
+  stands-empty e =
+      let z : read-front s ≡ [] = front-end s (start-of s) true (omega (arith, e)) in
+      record {
+        sets-are = ap (λ (l : List Elem). sets old-sets 0 (sets-of fold l)) (sym z);
+        before-are = ap (λ (l : List Elem). sets old-before 0 (befores no-marks l)) (sym z);
+      }
+
+  pub store-start : (i : ℕ) (m : Marks) → i ≡ start-of s → m ≡ no-marks → Storing i true m old-sets old-before
+  store-start i m e z =
+      subst⁻¹ (λ (k : ℕ). Storing k true m old-sets old-before) e
+      (subst⁻¹ (λ (k : Marks). Storing (start-of s) true k old-sets old-before) z (record { sets-on = refl; before-on = refl }))
+
+  module _ (i : ℕ) (first : Bool) (m : Marks) (ss : List (List ℕ)) (bs : List ℕ) (f : Storing i first m ss bs) where
+    nothing-left : front-of first (drop i s) ≡ [] → Stands ss bs
+    nothing-left z = record {
+      sets-are = ap (λ (l : List Elem). sets ss (m .at) (sets-of fold l)) (sym z) ∙ f .sets-on;
+      before-are = ap (λ (l : List Elem). sets bs (m .at) (befores m l)) (sym z) ∙ f .before-on;
+    }
+
+    pub stands-end : length s ≤ i → Stands ss bs
+    stands-end h = nothing-left (front-end s i first h)
+
+    pub stands-many : m .at ≡ 60 → length ss ≡ 60 → length bs ≡ 60 → Stands ss bs
+    stands-many full ls lb = record {
+      sets-are = sym (sets-past (sets-of fold (front-of first (drop i s))) ss (m .at) (omega (arith, full, ls))) ∙ f .sets-on;
+      before-are = sym (sets-past (befores m (front-of first (drop i s))) bs (m .at) (omega (arith, full, lb))) ∙ f .before-on;
+    }
+
+    module _ (h : i < length s) where
+      pub stands-last : (eqb (getD s i 0) 36 && eqb (i + 1) (length s)) ≡ true → Stands ss bs
+      stands-last e = nothing-left (here-is s i first h true e)
+
+      module _ (r : Piece) (a : PieceAt (map-got (drawn true) (atom first (getD s i 0) (drop (i + 1) s))) s i r)
+          (e : (eqb (getD s i 0) 36 && eqb (i + 1) (length s)) ≡ false) where
+        pub stands-lost : r .end ≡ 0 → Stands ss bs
+        stands-lost z = nothing-left (front-lost s i first h r a e z)
+
+        abbrev repeats : Bool
+        repeats = eqb (peek (drop (r .end) s)) 42
+
+        abbrev j : ℕ
+        j = pick repeats (r .end + 1) (r .end)
+
+        pub store-more : (r .end ≡ 0 → ⊥) → (i′ : ℕ) (m′ : Marks) (u : List ℕ) (v : ℕ) (t : Bool) → ((x : Atom) → r .set ≡ drawn true x → u ≡ set-as fold x)
+            → t ≡ repeats → i′ ≡ j → m′ ≡ mark m t → v ≡ before-at m t → Storing i′ false m′ (set ss (m .at) u) (set bs (m .at) v)
+        store-more n i′ m′ u v t eu et ei em ev =
+            let x = front-more s i first h r a e n in
+            let one : starred (elem repeats (x .value)) ≡ t = starred-elem repeats (x .value) ∙ sym et in
+            let draw : set-as fold (atom-of (elem repeats (x .value))) ≡ u = ap (set-as fold) (atom-elem repeats (x .value)) ∙ sym (eu (x .value) (sym (x .drawing))) in
+            subst⁻¹ (λ (k : ℕ). Storing k false m′ (set ss (m .at) u) (set bs (m .at) v)) ei
+            (subst⁻¹ (λ (k : Marks). Storing j false k (set ss (m .at) u) (set bs (m .at) v)) em
+            (record {
+              sets-on =
+                  ap₂ (λ (k : ℕ) (y : List ℕ). sets (set ss (m .at) y) k (sets-of fold (front-of false (drop j s)))) (add-one (m .at)) (sym draw)
+                  ∙ ap (λ (l : List Elem). sets ss (m .at) (sets-of fold l)) (sym (x .left)) ∙ f .sets-on;
+              before-on =
+                  ap₂ (λ (k : ℕ) (y : ℕ). sets (set bs (m .at) y) k (befores (mark m t) (front-of false (drop j s)))) (add-one (m .at)) ev
+                  ∙ ap (λ (b : Bool). sets (set bs (m .at) (before-at m b)) (suc (m .at)) (befores (mark m b) (front-of false (drop j s)))) (sym one)
+                  ∙ ap (λ (l : List Elem). sets bs (m .at) (befores m l)) (sym (x .left)) ∙ f .before-on;
+            }))
