@@ -1,5 +1,5 @@
 /* advance                    one typical advance beside its peers, and how an advance grows with what it is given
- * advance worst              the dearest advances that the limits allow, each once: it takes long
+ * advance worst              the dearest advances we found, each once: it takes long
  * advance count SIDE TIMES   the typical advance by one side, for counting instructions from outside
  *
  * Typical: an INVITE of 1,076 bytes with 15 fields and 13 lines of SDP; ten criteria of four rows each (method, presence of a
@@ -258,7 +258,8 @@ static void body(uint32_t n) {
     for (uint32_t i = 0; i < n; i++) put("a=rtpmap:0 PCMU/8000\r\n");
 }
 
-/* The dearest pattern: sixty positions, all live at each byte. */
+/* The dearest pattern: on a text of only `a` its sixty positions are all live at each byte. A text that begins with another byte is
+ * refused at that byte. */
 static const char *dense_pattern(void) {
     static char pattern[256];
     strcpy(pattern, "^");
@@ -269,7 +270,7 @@ static const char *dense_pattern(void) {
 static void dense(uint32_t n) {
     one_row("^X$", dense_pattern());
     begin_request();
-    put("X: b");
+    put("X: ");
     for (uint32_t i = 0; i < n; i++) put("aaaaaaaaaaaaaaaa");
     put("\r\n\r\n");
 }
@@ -315,33 +316,65 @@ static void growth(const char *name, void (*make)(uint32_t), uint32_t from, uint
     }
 }
 
-static void rows_of(const char *content) {
+/* ---- the dearest advances we found */
+
+enum { CRITERIA = 64, ROWS = 32, REQUEST_MOST = 65535 };
+
+/* 64 criteria of 32 rows, none of which fits, so that all are tried: the dearest pattern matches, and the row is negated. */
+static void worst_profile(int kind) {
+    struct image_row row = {.negated = 1, .kind = kind, .first = dense_pattern(), .content = dense_pattern()};
     image_begin(&builder);
-    for (uint32_t i = 0; i < 2048; i++) {
-        header_row("X", content, 0);
-        if (i % 32 == 31) criterion(i);
+    for (uint32_t i = 0; i < CRITERIA; i++) {
+        for (uint32_t k = 0; k < ROWS; k++) image_row(&builder, row);
+        criterion(i);
     }
     build();
 }
 
-static void timed(const char *what) {
-    printf("%s: image of %u bytes, request of %u: %.1f s\n", what, (unsigned)image_len, (unsigned)request_len, once(by_library, 1) / 1e9);
+static void worst_request(const char *begin) {
+    request_len = 0;
+    put("I a SIP/2.0\r\n");
+    put(begin);
+}
+
+/* As often as there is room for it and for the end; how often. */
+static uint32_t repeat(const char *text, const char *end) {
+    uint32_t n = 0;
+    for (; request_len + strlen(text) + strlen(end) <= REQUEST_MOST; n++) put(text);
+    put(end);
+    return n;
+}
+
+/* The trials that document 01 counts must come out: then every row was tried on every part. */
+static void timed(const char *name, uint32_t parts, uint32_t values) {
+    double ns = once(by_library, 1);
+    if (found.outcome != IFC_ROUTE || found.examined != CRITERIA || found.trials != CRITERIA * ROWS * (parts + values))
+        stop("not all was tried");
+    printf("%-8s %8u %8u %8u %8u %10u %10.1f %12.0f\n", name, (unsigned)image_len, (unsigned)request_len, parts, values, found.trials,
+        ns / 1e9, ns / (CRITERIA * ROWS) / (double)request_len);
     fflush(stdout);
 }
 
-/* 64 criteria of 32 rows each that meet every field, and none fits. */
+/* A test of n bytes steps n times through sixty positions, and at the first byte once more: that is a step a byte where values of one
+ * byte stand between commas, as in one long value, but with more work around it. */
 static void worst(void) {
-    rows_of("a");
-    begin_request();
-    while (request_len < 65535 - 6) put("X:\r\n");
-    put("\r\n");
-    timed("fields of one byte");
-    rows_of(dense_pattern());
-    begin_request();
-    put("X: b");
-    while (request_len < 65535 - 4) put("a");
-    put("\r\n\r\n");
-    timed("one value under sixty starred elements");
+    uint32_t n;
+    printf("One advance, 64 criteria of 32 rows, each with two patterns of sixty starred elements; none fits.\n");
+    printf("%-8s %8s %8s %8s %8s %10s %10s %12s\n", "", "image", "request", "parts", "values", "trials", "s", "ns/byte/row");
+    worst_profile(ROW_HEADER);
+    worst_request("");
+    n = repeat("a:\r\n", "\r\n");
+    timed("fields", n, n);
+    worst_request("a:");
+    repeat("a", "\r\n\r\n");
+    timed("a value", 1, 1);
+    worst_request("a:a");
+    n = repeat(",a", "\r\n\r\n");
+    timed("values", 1, n + 1);
+    worst_profile(ROW_LINE);
+    worst_request("\r\n");
+    n = repeat("a=a\n", "");
+    timed("lines", n, n);
 }
 
 /* Prints the side's name; nothing, if there is no such side. */
