@@ -3,7 +3,8 @@
  *     static struct image_builder b;
  *     image_begin(&b);
  *     image_row(&b, (struct image_row){.kind = ROW_METHOD, .first = "INVITE"});
- *     image_criterion(&b, (struct image_criterion){.priority = 10, .form = FORM_CNF, .server = "sip:recorder@desk.example"});
+ *     image_criterion(&b, (struct image_criterion){.priority = 10, .part = PART_ABSENT, .form = FORM_CNF,
+ *         .server = "sip:recorder@desk.example", .handling = HANDLING_TERMINATED});
  *     size_t length = image_end(&b, bytes, sizeof bytes);
  *
  * It does not judge what it writes: ifc_check does. */
