@@ -4,7 +4,7 @@
 #include <stdint.h>
 #include <stdio.h>
 #include <string.h>
-#include "../include/ifc.h"
+#include <ifc.h>
 
 struct profile {
     const uint8_t *image;
@@ -15,7 +15,8 @@ struct call {
     const uint8_t *request; /* as it came from the wire; the controller replaces it when a server sends it back changed */
     size_t length;
     uint32_t session_case, registration_type;
-    uint32_t fate; /* for the stub of forward: what will be reported */
+    uint32_t fate;    /* for the stub of forward: what will be reported, */
+    const char *back; /* and the request as the server sends it back */
 };
 
 static void print_name(const char *what, const uint8_t *name, uint32_t length) {
@@ -24,6 +25,10 @@ static void print_name(const char *what, const uint8_t *name, uint32_t length) {
 
 static uint32_t forward(struct call *c, const uint8_t *server, uint32_t length) {
     print_name("to", server, length);
+    if (c->fate == IFC_RETURNED) {
+        c->request = (const uint8_t *)c->back;
+        c->length = strlen(c->back);
+    }
     return c->fate;
 }
 
@@ -63,10 +68,13 @@ static void refused(struct call *c, uint32_t number, uint32_t place) {
     case IFC_REQUEST_UNREADABLE:
         reject(c, 400);
         return;
+    case IFC_WRONG_METHOD: /* a REGISTER that comes in is listed, see take; this one was made on the way */
+        alarm_raised("a server sent the call back as a REGISTER", number, place);
+        reject(c, 500);
+        return;
     case IFC_NUMBER_OUT_OF_RANGE: /* case or report */
     case IFC_TYPE_OUT_OF_RANGE:   /* registration type */
     case IFC_WRONG_MOMENT:        /* advance without a report, report without a forward, or a session that was overwritten */
-    case IFC_WRONG_METHOD:        /* taken care of before */
     case IFC_TOO_FEW_PLACES:      /* 64 places always suffice */
     case IFC_NO_SUCH_CRITERION:   /* a number from another image */
     default:
@@ -102,7 +110,7 @@ static void take(const struct profile *p, struct call *c) {
     uint32_t refusal = ifc_session_open(&session, c->session_case);
     while (!refusal && session.state == IFC_READY) {
         refusal = ifc_session_advance(&session, p->image, p->length, c->request, c->length, &answer);
-        if (refusal == IFC_WRONG_METHOD) {
+        if (refusal == IFC_WRONG_METHOD && !session.forwarded) {
             take_registration(p, c);
             return;
         }
@@ -135,21 +143,22 @@ static const uint8_t image[31] = {1, 0, 1, 0, 5, 's', 'i', 'p', ':', 'a', 0, 0, 
 static const char invite[] = "INVITE sip:b SIP/2.0\r\nFrom: <sip:c>\r\n\r\n";
 static const char registers[] = "REGISTER sip:b SIP/2.0\r\nFrom: <sip:c>\r\n\r\n";
 
-static void show(const char *title, size_t image_len, const char *request, uint32_t session_case, uint32_t fate) {
+static void show(const char *title, size_t image_len, const char *request, uint32_t session_case, uint32_t fate, const char *back) {
     struct profile p = {image, image_len};
-    struct call c = {(const uint8_t *)request, strlen(request), session_case, IFC_INITIAL_REGISTRATION, fate};
+    struct call c = {(const uint8_t *)request, strlen(request), session_case, IFC_INITIAL_REGISTRATION, fate, back};
     printf("%s\n", title);
     take(&p, &c);
 }
 
 int main(void) {
-    show("the server sends the call back", sizeof image, invite, IFC_ORIGINATING, IFC_RETURNED);
-    show("the server is not reached", sizeof image, invite, IFC_ORIGINATING, IFC_UNREACHABLE);
-    show("the server answers", sizeof image, invite, IFC_ORIGINATING, IFC_FINAL_RESPONSE);
-    show("a registration", sizeof image, registers, IFC_ORIGINATING, IFC_RETURNED);
-    show("no SIP", sizeof image, "hello", IFC_ORIGINATING, IFC_RETURNED);
-    show("a profile cut short", sizeof image - 1, invite, IFC_ORIGINATING, IFC_RETURNED);
-    show("a wrong session case", sizeof image, invite, 4, IFC_RETURNED);
-    show("a wrong report", sizeof image, invite, IFC_ORIGINATING, 3);
+    show("the server sends the call back", sizeof image, invite, IFC_ORIGINATING, IFC_RETURNED, invite);
+    show("the server sends it back as a registration", sizeof image, invite, IFC_ORIGINATING, IFC_RETURNED, registers);
+    show("the server is not reached", sizeof image, invite, IFC_ORIGINATING, IFC_UNREACHABLE, NULL);
+    show("the server answers", sizeof image, invite, IFC_ORIGINATING, IFC_FINAL_RESPONSE, NULL);
+    show("a registration", sizeof image, registers, IFC_ORIGINATING, IFC_RETURNED, NULL);
+    show("no SIP", sizeof image, "hello", IFC_ORIGINATING, IFC_RETURNED, NULL);
+    show("a profile cut short", sizeof image - 1, invite, IFC_ORIGINATING, IFC_RETURNED, NULL);
+    show("a wrong session case", sizeof image, invite, 4, IFC_RETURNED, NULL);
+    show("a wrong report", sizeof image, invite, IFC_ORIGINATING, 3, NULL);
     return 0;
 }
