@@ -4,7 +4,7 @@
 #include <stdio.h>
 #include <stdlib.h>
 #include <string.h>
-#include "../include/ifc.h"
+#include <ifc.h>
 #include "desk.h"
 
 static uint8_t image[IMAGE_MOST];
@@ -74,26 +74,30 @@ static void report(ifc_session *session, uint32_t what) {
     printf("  %s: session %s\n", said[what], states[session->state]);
 }
 
+static const char *in_plain_words(const ifc_session *session, const ifc_answer *last, int asked, uint32_t of_recorder) {
+    if (last->outcome == IFC_REFUSED) return "it was refused, and went nowhere";
+    if (!asked) return "the recorder was not asked for";
+    if (of_recorder == IFC_RETURNED) return "it passed the recorder";
+    if (of_recorder == IFC_FINAL_RESPONSE) return "the recorder answered it, and it went nowhere else";
+    if (session->state == IFC_RELEASED) return "it did not pass the recorder, and went nowhere else";
+    return "it did not pass the recorder, and went on without it";
+}
+
 /* One call from the desk. `next` is the request as the first server sends it back. */
 static void call(const char *title, const char *first, const char *next, uint32_t of_recorder) {
     ifc_session session;
     ifc_answer answer;
-    int passed = 0, asked = 0;
+    int asked = 0;
     printf("%s\n", title);
     if (ifc_session_open(&session, IFC_ORIGINATING)) stop("no session");
     for (const char *name = first; session.state == IFC_READY; name = next) {
         advance(&session, name, &answer);
         if (answer.outcome != IFC_FORWARD) break;
         int recorder = answer.criterion == RECORDER;
-        uint32_t what = recorder ? of_recorder : IFC_RETURNED;
-        report(&session, what);
+        report(&session, recorder ? of_recorder : IFC_RETURNED);
         asked |= recorder;
-        passed |= recorder && what == IFC_RETURNED;
     }
-    if (passed) printf("In plain words: it passed the recorder.\n\n");
-    else if (session.state == IFC_RELEASED) printf("In plain words: it did not pass the recorder, and went nowhere else.\n\n");
-    else if (asked) printf("In plain words: it did not pass the recorder, and went on without it.\n\n");
-    else printf("In plain words: the recorder was not asked for.\n\n");
+    printf("In plain words: %s.\n\n", in_plain_words(&session, &answer, asked, of_recorder));
 }
 
 static void registration(const char *title, uint32_t type) {
@@ -119,10 +123,14 @@ static void registration(const char *title, uint32_t type) {
 int main(int argc, char **argv) {
     if (argc != 2) stop("desk DIRECTORY");
     directory = argv[1];
+    printf("examined: the criteria looked at\n"
+           "trials:   the tests of a row on a part of the request; every row of these criteria once, as document 01 counts\n\n");
     desk_profile(HANDLING_TERMINATED);
     call("A call to another house", "invite.sip", "invite-recorded.sip", IFC_RETURNED);
     call("The same call; the recorder cannot be reached, its default handling is terminated", "invite.sip", "invite.sip",
         IFC_UNREACHABLE);
+    call("The same call; the recorder answers it", "invite.sip", "invite.sip", IFC_FINAL_RESPONSE);
+    call("The same call, but its From stands under the compact name f", "invite-compact.sip", "invite-compact.sip", IFC_RETURNED);
     call("A message", "message.sip", "message.sip", IFC_RETURNED);
     registration("The desk registers for the first time", IFC_INITIAL_REGISTRATION);
     registration("The desk registers again", IFC_REREGISTRATION);

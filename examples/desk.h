@@ -1,12 +1,22 @@
-/* The sample desk's profile. It has three servers. The recorder takes every call with sound and every message of a desk, and learns
- * of its first registration; without the recorder a call must not go on. Billing takes calls to other houses. Voicemail takes calls
- * to a desk and learns when one comes and goes. */
+/* The sample desk's profile. It has three servers.
+ *
+ * The recorder takes, in every session case, an INVITE with a body line m=audio, a MESSAGE and a first REGISTER, each if a From field
+ * holds a desk's address (DESK_ADDRESS). Its default handling is given: terminated, and a call does not go on without it. Past it go
+ * - an INVITE without m=audio in its body, also one that leaves the offer to the other side;
+ * - a request whose From stands under the compact name `f:`, for names are taken as written and `f:` is not `From:`;
+ * - an address that says the same in other letters, as %64esk14 does for desk14, and a tel: number.
+ *
+ * Billing takes calls to other houses. Voicemail takes calls to a desk and learns when one comes and goes. */
 #ifndef DESK_H
 #define DESK_H
-#include "../include/ifc.h"
+#include <ifc.h>
 #include "image.h"
 
 enum { BILLING, RECORDER, VOICEMAIL }; /* numbers of the criteria, in the order of the image */
+
+/* sip: or sips:, a desk's number, the house; scheme and house in any case. It is open at both ends: with or without <> and port, and
+ * also in a display name or before a longer house, for the recorder shall rather take one call too many than one too few. */
+#define DESK_ADDRESS "[Ss][Ii][Pp][Ss]*:desk[0-9]*@[Dd][Ee][Ss][Kk]\\.[Ee][Xx][Aa][Mm][Pp][Ll][Ee]"
 
 static inline void desk_method(struct image_builder *b, const char *name, int set, int group) {
     image_row(b, (struct image_row){.kind = ROW_METHOD, .first = name, .set = set, .group = group});
@@ -28,10 +38,10 @@ static inline size_t desk_image(int recorder_handling, uint8_t *to, size_t room)
     image_row(&b, (struct image_row){.kind = ROW_LINE, .first = "m", .content = "^audio ", .group = 0});
     desk_method(&b, "MESSAGE", 0, 1);
     desk_method(&b, "REGISTER", INITIAL, 2);
-    image_row(&b, (struct image_row){.kind = ROW_HEADER, .first = "^From$", .content = "<sip:desk[0-9]*@desk\\.example>"});
+    image_row(&b, (struct image_row){.kind = ROW_HEADER, .first = "^From$", .content = DESK_ADDRESS});
     image_also(&b, 1);
     image_also(&b, 2);
-    image_criterion(&b, (struct image_criterion){.priority = 10, .part = PART_REGISTERED, .form = FORM_DNF,
+    image_criterion(&b, (struct image_criterion){.priority = 10, .part = PART_ABSENT, .form = FORM_DNF,
         .server = "sip:recorder@desk.example", .handling = recorder_handling, .information = "retain=7y"});
 
     /* voicemail, one group must hold: a first or last REGISTER, an INVITE to the desk (case 1) */

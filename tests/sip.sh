@@ -59,7 +59,7 @@ else
     echo "sip: no sipp here (Debian's sip-tester), or no UDP on loopback; only the requests of tests/sip"
     sed '/^# sent by sipp/,$d' tests/sip/expected | grep -v '^#' >"$out/expected"
 fi
-CFLAGS_X86="-O2 -Wall -Wextra -Werror" sh tests/cc-x86.sh build "$out/sip" tests/sip.c "$lib"
+CFLAGS_X86="-O2 -Wall -Wextra -Werror -Iinclude" sh tests/cc-x86.sh build "$out/sip" tests/sip.c "$lib"
 sh tests/cc-x86.sh run "$out/sip" "$out/cases" "$out/answers" "$@" >"$out/told"
 diff "$out/expected" "$out/told"
 cargo build --release --offline --quiet --manifest-path second/Cargo.toml --target-dir target/tests/second
