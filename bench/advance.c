@@ -355,8 +355,8 @@ static void timed(const char *name, uint32_t parts, uint32_t values) {
     fflush(stdout);
 }
 
-/* A test of n bytes steps n times through sixty positions, and at the first byte once more: that is a step a byte where values of one
- * byte stand between commas, as in one long value, but with more work around it. */
+/* Dearest of all is one long value: at each of its bytes the scan steps through sixty positions. Many short parts take more trials,
+ * but less time: bytes that are no text (colons, commas, line ends) take no step. Parts are fields, or lines of the body. */
 static void worst(void) {
     uint32_t n;
     printf("One advance, 64 criteria of 32 rows, each with two patterns of sixty starred elements; none fits.\n");
