@@ -1,8 +1,8 @@
 #!/bin/sh
-# What docs/STATEMENTS.md names exists. The library from C: the header, the archive's names, document 01's worked images and its
-# marked trigger, the examples, requests from the wire, threads, stack, garbage; then the fixed cases of the second program and COUNT
-# random ones from SEED, also through the plain C that the bench compares with. Patterns from C, on three times as many blocks of
-# lines; and the reading of requests, 50,000 random ones.
+# What docs/STATEMENTS.md names exists. The library from C: the header, the archive's names, what is installed, document 01's worked
+# images and its marked trigger, the examples, requests from the wire, threads, stack, garbage; then the fixed cases of the second
+# program and COUNT random ones from SEED, also through the plain C that the bench compares with. Patterns from C, on three times as
+# many blocks of lines; and the reading of requests, 50,000 random ones.
 # check.sh [SEED COUNT]
 set -eu
 cd "$(dirname "$0")/.."
@@ -34,6 +34,7 @@ cargo build --release --offline --quiet --manifest-path second/Cargo.toml --targ
 second=$out/second/release/second
 sh tests/symbols.sh "$lib"
 sh tests/cc-x86.sh judge tests/header.c
+sh tests/install.sh
 build worked "" tests/worked.c "$lib"
 run worked
 sh tests/examples.sh "$out" "$lib"
