@@ -4,15 +4,10 @@
  * What must hold of every call, whatever it is given: a refusal is one the call may give; on a refusal the session's numbers are
  * what they were, counts are 0, the list is untouched, and only an image fault has a place; an answer keeps to its bounds; image
  * and request are not changed. At the end every refusal, forward and route must have been seen. */
-#include <stddef.h>
-#include <stdint.h>
-#include <stdio.h>
-#include <stdlib.h>
-#include <string.h>
-#include <sys/mman.h>
+#include "lent.h"
 #include "sample.h"
 
-enum { PAGE = 4096, ROOM = 69632, PLACES = 80 };
+enum { LONGEST = 69632, PLACES = 80 };
 
 static uint32_t call_number;
 
@@ -37,20 +32,11 @@ static uint32_t draw_number(uint32_t below) { return draw(8) ? draw(below) : (ui
 /* ---- lent parts */
 
 struct part {
-    uint8_t *room, *at, copy[ROOM];
+    uint8_t *room, *at, copy[LONGEST];
     size_t length;
 };
 
 static struct part image, request, list;
-
-static uint8_t *room(void) {
-    uint8_t *all = mmap(NULL, ROOM + 2 * PAGE, PROT_READ | PROT_WRITE, MAP_PRIVATE | MAP_ANONYMOUS, -1, 0);
-    if (all == MAP_FAILED || mprotect(all, PAGE, PROT_NONE) || mprotect(all + PAGE + ROOM, PAGE, PROT_NONE)) {
-        fprintf(stderr, "garbage: no memory\n");
-        exit(2);
-    }
-    return all + PAGE;
-}
 
 /* Lays the copy at one end of its room. A part of no bytes may be NULL. */
 static void lay(struct part *p) {
@@ -98,11 +84,11 @@ static void draw_image(void) {
 static void draw_request(void) {
     uint32_t how = draw(12);
     if (how == 0) {
-        draw_bytes(&request, draw(8) ? 200 : ROOM);
+        draw_bytes(&request, draw(8) ? 200 : LONGEST);
     } else {
         request.length = sample_request(draw(SAMPLE_REQUESTS), (char *)request.copy, SAMPLE_ROOM);
         if (how == 1) request.length = 65536 + draw(2);
-        else if (how < 4) damage(&request, ROOM);
+        else if (how < 4) damage(&request, LONGEST);
     }
     lay(&request);
 }

@@ -112,7 +112,7 @@ static uint8_t list[64];
 static void check(void) { refusal = ifc_check(image, image_len, &n[0]); }
 static void open_one(void) { refusal = ifc_session_open(&session, 1); }
 static void advance(void) { refusal = ifc_session_advance(&session, image, image_len, request, request_len, &answer); }
-static void report(void) { refusal = ifc_session_report(&session, 0); }
+static void report(void) { refusal = ifc_session_report(&session, IFC_RETURNED); }
 static void server(void) { refusal = ifc_server(image, image_len, 63, &n[0], &n[1], &n[2]); }
 static void information(void) { refusal = ifc_information(image, image_len, 63, &n[0], &n[1], &n[2], &n[3]); }
 static void list_all(void) {
@@ -122,16 +122,16 @@ static void list_all(void) {
 /* ---- measuring */
 
 /* On the painted thread: from here down to the deepest place that the call wrote to. The paint begins a little below here, so
- * that the painting itself is not painted over. */
+ * that the painting itself is not painted over. C does not define the distance of `here` from the lent stack that it lies in; the
+ * measure needs it, and takes it from addresses as numbers. */
 static void *measured(void *call) {
     uint8_t here;
-    uint8_t *top = &here;
-    size_t painted = (size_t)(top - stack) - BESIDE, clean = 0;
+    size_t height = (size_t)((uintptr_t)&here - (uintptr_t)stack), painted = height - BESIDE, clean = 0;
     volatile uint8_t *at = stack;
     for (size_t i = 0; i < painted; i++) at[i] = PAINT;
     (*(void (*const *)(void))call)();
     while (clean < painted && at[clean] == PAINT) clean++;
-    return (void *)(uintptr_t)(clean < painted ? (size_t)(top - stack) - clean : 0);
+    return (void *)(uintptr_t)(clean < painted ? height - clean : 0);
 }
 
 static size_t need(void (*call)(void)) {
@@ -141,6 +141,7 @@ static size_t need(void (*call)(void)) {
     pthread_attr_init(&attributes);
     if (pthread_attr_setstack(&attributes, stack, DOCUMENTED + LIBRARY)) stop("the thread library refuses the stack");
     if (pthread_create(&thread, &attributes, measured, &call)) stop("cannot start a thread");
+    pthread_attr_destroy(&attributes);
     pthread_join(thread, &result);
     return (size_t)(uintptr_t)result;
 }
@@ -179,7 +180,8 @@ int main(void) {
     printf("stack that each call needs, in bytes:\n");
     tell("ifc_check", check, 0);
     tell("ifc_open", open_one, 0);
-    tell("ifc_report", report, 10);
+    session = (ifc_session){.session_case = 1, .state = IFC_WAITING, .forwarded = 1, .last = 64};
+    tell("ifc_report", report, 0);
     tell("ifc_server", server, 0);
     tell("ifc_information", information, 0);
     for (size_t i = 0; i < sizeof worst / sizeof worst[0]; i++) {
