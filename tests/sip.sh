@@ -1,7 +1,7 @@
 #!/bin/sh
 # sip.sh [LIBRARY]: requests as they come from the wire, through the library and the second program: those of tests/sip, and those
 # that sipp (Debian's sip-tester) sends by UDP, its own scenario uac and the scenarios of tests/sip. Both must answer alike, and as
-# tests/sip/expected says. Without sipp, or without UDP on loopback, only the first are run, and it says so.
+# tests/sip/expected says. Without sipp, or without UDP on loopback, it leaves out what sipp sends, and says so.
 set -eu
 cd "$(dirname "$0")/.."
 . tests/over.sh
@@ -56,7 +56,7 @@ if wire; then
     send_all
     set -- "$@" "$out"/*.sip
 else
-    echo "sip: no sipp here (Debian's sip-tester), or no UDP on loopback; only the requests of tests/sip"
+    echo "sip: LEFT OUT: the requests that sipp sends; no sipp here (Debian's sip-tester), or no UDP on loopback"
     sed '/^# sent by sipp/,$d' tests/sip/expected | grep -v '^#' >"$out/expected"
 fi
 CFLAGS_X86="-O2 -Wall -Wextra -Werror -Iinclude" sh tests/cc-x86.sh build "$out/sip" tests/sip.c "$lib"
