@@ -1,4 +1,5 @@
-"""statements.py: every definition, theorem, function, wrong edit and file that docs/STATEMENTS.md names exists, and no cell is empty."""
+"""statements.py: every definition, theorem, function, wrong edit and file that docs/STATEMENTS.md names exists, no cell is empty, and
+where a row says "Examples" a crate of its definition has specs/Examples.antt."""
 import glob
 import os
 import re
@@ -45,6 +46,14 @@ def check(column, cell, row):
             wrong.append(f"{column}: {crate or ''} {module or ''} {name} does not exist ({row[:60]})")
 
 
+def check_examples(definition, test, row):
+    """Words outside of backquotes: in the one cell crates, in the other "Examples"."""
+    outside = [re.findall(r"\w+", re.sub(r"`[^`]*`", "", cell)) for cell in (definition, test)]
+    named = [word for word in outside[0] if word in crates]
+    if "Examples" in outside[1] and not any(os.path.exists(f"crates/{c}/specs/Examples.antt") for c in named):
+        wrong.append(f"Test: no crate of {' '.join(named) or 'none'} has specs/Examples.antt ({row[:60]})")
+
+
 columns = ["Sentence", "Definition", "Theorem", "Code", "Test"]
 rows = 0
 for line in open("docs/STATEMENTS.md", encoding="utf-8"):
@@ -57,6 +66,7 @@ for line in open("docs/STATEMENTS.md", encoding="utf-8"):
         continue
     for column, cell in list(zip(columns, cells))[1:]:
         check(column, cell, cells[0])
+    check_examples(cells[1], cells[4], cells[0])
 for w in wrong:
     print("statements:", w)
 if wrong or rows < 50:
