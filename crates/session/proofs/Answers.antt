@@ -6,6 +6,7 @@ use lib.Dec.{leb, eqb}
 use borrow.Author.Tests.{lt-leb, le-leb, lt-ltb, eq-eqb, ne-eqb, not-true, not-false}
 use Rattle.octets.specs.Lists.{pick}
 use Rattle.session.specs.Session.{nothing-yet, some-yet, by-forwarded, possible, fresh, unopened, open-session, with-state, goes, stays, after-report, report-session, ready, released, Opens, Reports}
+use Rattle.session.specs.declared.Reported.{Reported}
 use Rattle.session.specs.declared.Session.{Session}
 
 -- ---- which records a session can have
@@ -41,41 +42,46 @@ opened-no k h = record { answer = rw (lt-leb k 3 h) }
 
 -- ---- report
 
+pub goes-on : (x : Session) (s : ℕ) (y : Session) → y ≡ with-state x s → record { refusal = 0; session = y } ≡ goes x s
+goes-on x s y e = ap (λ (z : Session). record { refusal = 0; session = z }) e
+
+-- a is the answer of the helper that the code calls
 module _ (x : Session) (n : ℕ) (r : Bool) (e : r ≡ possible x) where
-  pub no-such : not r ≡ true → Reports x n (stays x 10)
+  pub no-such : (a : Reported) → a ≡ stays x 10 → not r ≡ true → Reports x n a
   unfolding report-session
-  no-such h = record { answer = rw (sym e ∙ not-true r h) }
+  no-such a f h = record { answer = f ∙ rw (sym e ∙ not-true r h) }
 
   module _ (h : not r ≡ false) where
     is-possible : possible x ≡ true
     is-possible = sym e ∙ not-false r h
 
-    pub not-waiting : (x .state ≡ 1 → ⊥) → Reports x n (stays x 10)
+    pub not-waiting : (a : Reported) → a ≡ stays x 10 → (x .state ≡ 1 → ⊥) → Reports x n a
     unfolding report-session
-    not-waiting k = record { answer = rw (is-possible, ne-eqb (x .state) 1 k) }
+    not-waiting a f k = record { answer = f ∙ rw (is-possible, ne-eqb (x .state) 1 k) }
 
     module _ (w : x .state ≡ 1) where
       waits : after-report n x ≡ report-session x n
       unfolding report-session
       waits = rw (is-possible, eq-eqb (x .state) 1 w)
 
-      -- the session y that a moved one is, once a test is decided
-      moved : (y : Session) (s : ℕ) → y ≡ with-state x s → after-report n x ≡ goes x s → Reports x n (record { refusal = 0; session = y })
-      moved y s f d = record { answer = ap (λ (z : Session). record { refusal = 0; session = z }) f ∙ sym d ∙ waits }
-
-      pub returned : (y : Session) → y ≡ with-state x 0 → n ≡ 0 → Reports x n (record { refusal = 0; session = y })
-      returned y f e0 = moved y 0 f (ap (λ (k : ℕ). after-report k x) e0)
+      pub returned : (a : Reported) → a ≡ goes x 0 → n ≡ 0 → Reports x n a
+      returned a f e0 = record { answer = f ∙ sym (ap (λ (k : ℕ). after-report k x) e0) ∙ waits }
 
       module _ (n0 : n ≡ 0 → ⊥) where
-        pub continued : (y : Session) → y ≡ with-state x 0 → n ≡ 1 → x .handling ≡ 0 → Reports x n (record { refusal = 0; session = y })
-        continued y f e1 d = moved y 0 f (ap (λ (k : ℕ). after-report k x) e1 ∙ ap (λ (b : Bool). goes x (pick b ready released)) (eq-eqb (x .handling) 0 d))
+        -- unreachable: by the default
+        unreachable : (a : Reported) (b : Bool) → n ≡ 1 → eqb (x .handling) 0 ≡ b → a ≡ goes x (pick b ready released) → Reports x n a
+        unreachable a b e1 d f =
+            record { answer = f ∙ sym (ap (λ (k : ℕ). after-report k x) e1 ∙ ap (λ (b : Bool). goes x (pick b ready released)) d) ∙ waits }
 
-        pub terminated : (y : Session) → y ≡ with-state x 3 → n ≡ 1 → (x .handling ≡ 0 → ⊥) → Reports x n (record { refusal = 0; session = y })
-        terminated y f e1 d = moved y 3 f (ap (λ (k : ℕ). after-report k x) e1 ∙ ap (λ (b : Bool). goes x (pick b ready released)) (ne-eqb (x .handling) 0 d))
+        pub continued : (a : Reported) → a ≡ goes x 0 → n ≡ 1 → x .handling ≡ 0 → Reports x n a
+        continued a f e1 d = unreachable a true e1 (eq-eqb (x .handling) 0 d) f
+
+        pub terminated : (a : Reported) → a ≡ goes x 3 → n ≡ 1 → (x .handling ≡ 0 → ⊥) → Reports x n a
+        terminated a f e1 d = unreachable a false e1 (ne-eqb (x .handling) 0 d) f
 
         module _ (n1 : n ≡ 1 → ⊥) where
-          pub final : (y : Session) → y ≡ with-state x 4 → n ≡ 2 → Reports x n (record { refusal = 0; session = y })
-          final y f e2 = moved y 4 f (ap (λ (k : ℕ). after-report k x) e2)
+          pub final : (a : Reported) → a ≡ goes x 4 → n ≡ 2 → Reports x n a
+          final a f e2 = record { answer = f ∙ sym (ap (λ (k : ℕ). after-report k x) e2) ∙ waits }
 
-          pub no-report : (n ≡ 2 → ⊥) → Reports x n (stays x 8)
-          no-report n2 = record { answer = sym (rw (ne-eqb n 0 n0, ne-eqb n 1 n1, ne-eqb n 2 n2)) ∙ waits }
+          pub no-report : (a : Reported) → a ≡ stays x 8 → (n ≡ 2 → ⊥) → Reports x n a
+          no-report a f n2 = record { answer = f ∙ sym (rw (ne-eqb n 0 n0, ne-eqb n 1 n1, ne-eqb n 2 n2)) ∙ waits }

@@ -1,6 +1,6 @@
 // The session: its record, which records a session can have, opening, and the report of what became of a forward.
 ghost use mathlib.Core.Path.{_≡_};
-ghost use Rattle.session.specs.Session.{possible, with-state, Opens, Reports};
+ghost use Rattle.session.specs.Session.{possible, with-state, goes as goes-in, stays as stays-with, Opens, Reports};
 
 // Five numbers: case 0..3; state 0 ready, 1 waiting, 2 finished, 3 released, 4 ended; forwarded 1 if anything was, else 0; the
 // last priority; that criterion's default handling.
@@ -78,47 +78,46 @@ pub fn in_state(x: Session, state: u32) -> Session
     }
 }
 
+// A refusal leaves the session as it came.
+fn stays(x: Session, refusal: u32) -> Reported
+    ensures { λ r. ⌜ r ≡ stays-with x refusal ⌝ }
+{
+    Reported {
+        refusal,
+        session: x,
+    }
+}
+
+// The session goes on in this state.
+fn goes(x: Session, state: u32) -> Reported
+    ensures { λ r. ⌜ r ≡ goes-in x state ⌝ }
+{
+    Reported {
+        refusal: 0,
+        session: in_state(x, state),
+    }
+}
+
 pub fn report(x: Session, news: u32) -> Reported
     ensures { λ r. ⌜ Reports x news r ⌝ }
 {
     if !can_be(x) {
-        return Reported {
-            refusal: 10,
-            session: x,
-        };
+        return stays(x, 10);
     }
     if x.state != 1 {
-        return Reported {
-            refusal: 10,
-            session: x,
-        };
+        return stays(x, 10);
     }
     if news == 0 {
-        return Reported {
-            refusal: 0,
-            session: in_state(x, 0),
-        };
+        return goes(x, 0);
     }
     if news == 1 {
         if x.handling == 0 {
-            return Reported {
-                refusal: 0,
-                session: in_state(x, 0),
-            };
+            return goes(x, 0);
         }
-        return Reported {
-            refusal: 0,
-            session: in_state(x, 3),
-        };
+        return goes(x, 3);
     }
     if news == 2 {
-        return Reported {
-            refusal: 0,
-            session: in_state(x, 4),
-        };
+        return goes(x, 4);
     }
-    Reported {
-        refusal: 8,
-        session: x,
-    }
+    stays(x, 8)
 }
