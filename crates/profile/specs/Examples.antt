@@ -74,14 +74,19 @@ zeros (suc n) = 0 ∷ zeros n
 
 -- ---- the list
 
--- accepted; a fault's number and place
+-- accepted; accepted, with this default in every criterion; a fault's number and place
 pub data Example : Type 0 where
   is-accepted : List ℕ → Example
+  has-default : ℕ → List ℕ → Example
   fault-at : ℕ → ℕ → List ℕ → Example
 
 abbrev fine : Judged → Bool
 fine (accepted p) = true
 fine (refused n place) = false
+
+abbrev all-by : Judged → ℕ → Bool
+all-by (accepted p) handling = every (λ c. eqb (c .handling) handling) (p .criteria)
+all-by (refused n place) handling = false
 
 abbrev faulty : Judged → ℕ → ℕ → Bool
 faulty (accepted p) n place = false
@@ -90,6 +95,7 @@ faulty (refused m at) n place = eqb m n && eqb at place
 unfoldable pub right : Example → Bool
 unfolding judge
 right (is-accepted s) = fine (judge s)
+right (has-default handling s) = all-by (judge s) handling
 right (fault-at n place s) = faulty (judge s) n place
 
 unfoldable pub examples : List Example
@@ -133,6 +139,9 @@ examples =
     -- criteria
     ∷ fault-at 4 31 (with-criteria 65 [])
     ∷ is-accepted (with-criteria 1 (criterion 5 0 0 1 0 2))
+    -- default absent, "read as 0"
+    ∷ has-default 0 (with-criteria 1 (criterion 5 0 0 1 0 2))
+    ∷ has-default 1 (with-criteria 1 (criterion 5 0 0 1 0 1))
     ∷ fault-at 4 41 (with-criteria 1 (criterion 5 0 1 1 0 0))
     ∷ fault-at 4 41 (with-criteria 1 (criterion 5 1 0 0 0 0))
     ∷ fault-at 4 39 (with-criteria 1 (criterion 5 2 1 0 0 0))
