@@ -13,7 +13,8 @@ use Rattle.profile.specs.Decoded.{stored, stored-in, nothing, string-of}
 use Rattle.lookups.specs.Lookups.{the-part, part-of}
 use Rattle.profile.specs.Answers.{Table}
 use Rattle.lookups.specs.declared.Lookup.{Lookup}
-use Rattle.profile.proofs.Found.{taken, string-at, part-in}
+use Rattle.profile.proofs.Found.{string-at, part-in}
+use Rattle.profile.proofs.Uses.{taken}
 
 -- where string i stands, and that it is there
 abbrev at-part : ℕ → ℕ → Lookup

@@ -7,17 +7,17 @@ use Rattle.profile.specs.Out.{Out, good, bad, _>>=_}
 use Rattle.profile.specs.Places.{many, ends}
 use Rattle.profile.proofs.Laws.{good-inj, bad-good}
 
-module _ {A : Type 0} (f : List A → ℕ → Out (A × ℕ)) (n k at : ℕ) (l : List A) where
-  left : k < n → n - k ≡ suc (n - (k + 1))
-  left h = omega arith
+pub left : (n k : ℕ) → k < n → n - k ≡ suc (n - (k + 1))
+left n k h = omega arith
 
+module _ {A : Type 0} (f : List A → ℕ → Out (A × ℕ)) (n k at : ℕ) (l : List A) where
   pub many-step : (a : A) (next : ℕ) → k < n → f l at ≡ good (a, next) → many f (n - k) at l ≡ many f (n - (k + 1)) next (l ++ (a ∷ []))
   unfolding many
-  many-step a next h e = rw (left h, e)
+  many-step a next h e = rw (left n k h, e)
 
   pub many-bad : (m p : ℕ) → k < n → f l at ≡ bad m p → many f (n - k) at l ≡ bad m p
   unfolding many
-  many-bad m p h e = rw (left h, e)
+  many-bad m p h e = rw (left n k h, e)
 
   pub many-end : n ≤ k → many f (n - k) at l ≡ good (l, at)
   unfolding many

@@ -1,5 +1,5 @@
 -- The loop over the memberships: k of n are read, the last of them is (row, group), and `counts` has how many each row has.
-use Prim.Native.Nat.{ℕ, zero, suc, _+_, _-_, _*_, _≤_, _<_}
+use Prim.Native.Nat.{ℕ, zero, _+_, _-_, _*_, _≤_, _<_}
 use native.Mathlib.Omega.{arith}
 use native.Mathlib.Nat.{sub-zero}
 use native.Mathlib.Decide.{ℕ-discrete}
@@ -18,7 +18,7 @@ use Rattle.profile.specs.declared.Field.the-variants.{Is, Refused}
 use Rattle.profile.specs.declared.Pair.{Pair}
 use Rattle.profile.specs.declared.Pair.the-variants.{Both}
 use Rattle.profile.proofs.Laws.{bind-inv, must-inv, good-inj}
-use Rattle.profile.proofs.Many.{many-step, many-bad, many-end}
+use Rattle.profile.proofs.Many.{left, many-step, many-bad, many-end}
 
 follows-snoc : (l : List Member) (m : Member) (r g : ℕ) → follows (l ++ (m ∷ [])) r g ≡ after (m .row) (m .group) r g
 follows-snoc [] m r g = refl
@@ -130,20 +130,17 @@ module _ (f : ℕ → ℕ) (rows start : ℕ) where
   placed-first = record { count = omega arith; place = omega arith; so-far = rw sub-zero }
 
   module _ (at k : ℕ) (hd : PlacedHead at k) where
-    left : k < rows → rows - k ≡ suc (rows - (k + 1))
-    left h = omega arith
-
     pub placed-none : (c : ℕ) → c ≡ f k → k < rows → c < 1 → bad 4 at ≡ placed f rows 0 start
     unfolding placed
-    placed-none c e l h = sym (hd .so-far ∙ rw (left l, ← e, lt-leb 1 c h))
+    placed-none c e l h = sym (hd .so-far ∙ rw (left rows k l, ← e, lt-leb 1 c h))
 
     pub placed-many : (c : ℕ) → c ≡ f k → k < rows → 1 ≤ c → 8 < c → bad 4 at ≡ placed f rows 0 start
     unfolding placed
-    placed-many c e l h h₂ = sym (hd .so-far ∙ rw (left l, ← e, le-leb 1 c h, lt-leb c 8 h₂))
+    placed-many c e l h h₂ = sym (hd .so-far ∙ rw (left rows k l, ← e, le-leb 1 c h, lt-leb c 8 h₂))
 
     pub placed-more : (c : ℕ) → c ≡ f k → k < rows → 1 ≤ c → c ≤ 8 → PlacedHead (at + 7) (k + 1)
     unfolding placed
-    placed-more c e l h h₂ = record { count = omega arith; place = omega (arith, hd .place); so-far = hd .so-far ∙ rw (left l, ← e, le-leb 1 c h, le-leb c 8 h₂) }
+    placed-more c e l h h₂ = record { count = omega arith; place = omega (arith, hd .place); so-far = hd .so-far ∙ rw (left rows k l, ← e, le-leb 1 c h, le-leb c 8 h₂) }
 
     pub placed-end : rows ≤ k → good tt ≡ placed f rows 0 start
     unfolding placed

@@ -52,7 +52,7 @@ getD-map-in f (x ∷ xs) zero d e h = refl
 getD-map-in f (x ∷ xs) (suc i) d e h = getD-map-in f xs i d e (le-of-suc-le-suc h)
 
 module _ (s : List ℕ) (n : ℕ) (table : List ℕ) (tb : Table s n table) where
-  taken : length (take n table) ≡ n
+  pub taken : length (take n table) ≡ n
   taken = length-take-le n table (omega (arith, tb .long, tb .count))
 
   pub texts-length : length (texts s n table) ≡ n
