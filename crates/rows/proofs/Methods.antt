@@ -2,26 +2,20 @@
 use mathlib.Core.Bool.{Bool, true, false, not, _&&_, _||_}
 use mathlib.Core.Path.{_≡_, sym, ap, _∙_}
 use mathlib.Core.List.{List}
-use Prim.Native.Nat.{ℕ, _<_, _/_, _^_}
+use Prim.Native.Nat.{ℕ, _<_, _^_}
 use native.Mathlib.Omega.{arith}
-use lib.Bits.{bitAnd}
 use lib.Dec.{eqb}
 use borrow.Author.Tests.{not-true, not-false, eq-eqb, ne-eqb}
 use Rattle.octets.specs.Bits.{bit}
 use Rattle.octets.specs.Lists.{same}
-use Rattle.octets.proofs.Bits.{low-bit, bit-below}
+use Rattle.octets.proofs.Bits.{bit-below}
 use Rattle.octets.proofs.Tests.{test-cases}
-use Rattle.rows.specs.Rows.{REGISTER, in-set, registration-fits}
+use Rattle.rows.specs.Rows.{REGISTER, registration-fits}
 
 -- a set of 64 bits has none past them
-pub in-set-past : (set type : ℕ) → set < 2 ^ 64 → 63 < type → false ≡ in-set set type
-unfolding bit
+pub in-set-past : (set type : ℕ) → set < 2 ^ 64 → 63 < type → false ≡ bit set type
 in-set-past set type small past =
     test-cases (bit set type) (λ y. absurd (omega (arith, bit-below 64 set type small y))) (λ n. sym n)
-
-pub in-set-bit : (set type : ℕ) → eqb (bitAnd (set / 2 ^ type) 1) 1 ≡ in-set set type
-unfolding bit
-in-set-bit set type = low-bit set type
 
 -- ---- the Method row
 
@@ -34,18 +28,18 @@ module _ (named method : List ℕ) (set type : ℕ) (m : Bool) (em : m ≡ same 
   whole = same named method && registration-fits named set type
 
   pub method-other : not m ≡ true → false ≡ whole
-  method-other n = ap (λ (b : Bool). method-by b (same named REGISTER) (eqb set 0) (in-set set type)) (sym (not-true m n) ∙ em)
+  method-other n = ap (λ (b : Bool). method-by b (same named REGISTER) (eqb set 0) (bit set type)) (sym (not-true m n) ∙ em)
 
   module _ (y : not m ≡ false) (r : Bool) (er : r ≡ same named REGISTER) where
-    named-so : (b : Bool) → r ≡ b → method-by true b (eqb set 0) (in-set set type) ≡ whole
-    named-so b e = (λ i. method-by ((sym (not-false m y) ∙ em) i) ((sym e ∙ er) i) (eqb set 0) (in-set set type))
+    named-so : (b : Bool) → r ≡ b → method-by true b (eqb set 0) (bit set type) ≡ whole
+    named-so b e = (λ i. method-by ((sym (not-false m y) ∙ em) i) ((sym e ∙ er) i) (eqb set 0) (bit set type))
 
     pub method-plain : not r ≡ true → true ≡ whole
     method-plain n = named-so false (not-true r n)
 
     module _ (x : not r ≡ false) where
       pub method-no-set : set ≡ 0 → true ≡ whole
-      method-no-set z = sym (ap (λ (b : Bool). b || in-set set type) (eq-eqb set 0 z)) ∙ named-so true (not-false r x)
+      method-no-set z = sym (ap (λ (b : Bool). b || bit set type) (eq-eqb set 0 z)) ∙ named-so true (not-false r x)
 
-      pub method-set : (set ≡ 0 → ⊥) → (b : Bool) → b ≡ in-set set type → b ≡ whole
-      method-set n b eb = eb ∙ sym (ap (λ (b : Bool). b || in-set set type) (ne-eqb set 0 n)) ∙ named-so true (not-false r x)
+      pub method-set : (set ≡ 0 → ⊥) → (b : Bool) → b ≡ bit set type → b ≡ whole
+      method-set n b eb = eb ∙ sym (ap (λ (b : Bool). b || bit set type) (ne-eqb set 0 n)) ∙ named-so true (not-false r x)

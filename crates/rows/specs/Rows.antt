@@ -1,10 +1,11 @@
 -- When a row fits, and the trials it takes (document 01, "When a row, a trigger and a criterion fit" and the counts of "The session").
 use mathlib.Core.Bool.{Bool, true, not, _&&_, _||_}
 use mathlib.Core.Option.{Option, none, some}
-use Prim.Native.Nat.{ℕ, _+_, _/_, _%_, _^_}
+use Prim.Native.Nat.{ℕ, _+_}
 use mathlib.Core.List.{List, [], _∷_}
 use lib.ListN.{length}
 use lib.Dec.{eqb}
+use Rattle.octets.specs.Bits.{bit}
 use Rattle.octets.specs.Lists.{text, pick, some-of, total, same}
 use Rattle.pattern.specs.Pattern.{Pattern}
 use Rattle.pattern.specs.Matching.{written-matches, name-matches}
@@ -23,13 +24,9 @@ REGISTER = text "REGISTER"
 
 -- ---- whether it fits
 
--- "bit 0 initial, 1 re-registration, 2 de-registration"
-abbrev pub in-set : ℕ → ℕ → Bool
-in-set set type = eqb (set / 2 ^ type % 2) 1
-
--- "for REGISTER with a nonempty set the registration type must also be in it"
+-- "for REGISTER with a nonempty set the registration type must also be in it": "bit 0 initial, 1 re-registration, 2 de-registration"
 abbrev pub registration-fits : List ℕ → ℕ → ℕ → Bool
-registration-fits m set type = not (same m REGISTER) || eqb set 0 || in-set set type
+registration-fits m set type = not (same m REGISTER) || eqb set 0 || bit set type
 
 -- "if Content is present, some value .. matches"
 abbrev pub content-fits : Option Pattern → List (List ℕ) → Bool
@@ -46,7 +43,7 @@ line-fits h c l = written-matches h (l .type) && content-fits c (l .value ∷ []
 
 -- before negation
 unfoldable pub test-fits : Request → Given → Test → Bool
-unfolding request-lines name-matches written-matches
+unfolding request-lines name-matches written-matches bit
 test-fits q g (request-uri u) = same u (q .uri)
 test-fits q g (method m set) = same m (q .method) && registration-fits m set (g .registration)
 test-fits q g (header h c) = some-of (field-fits h c) (q .fields)
