@@ -1,17 +1,17 @@
 -- The loops over memberships, and what they say of a trigger.
-use Rattle.octets.proofs.Tests.{not-or}
-use mathlib.Core.Bool.{Bool, true, false, not, _&&_, _||_, and-false}
+use mathlib.Core.Bool.{Bool, true, false, not, _&&_, _||_}
 use mathlib.Core.Path.{_≡_, refl, sym, ap, ap₂, _∙_, subst}
 use Prim.Native.Nat.{ℕ, suc, _+_, _-_, _*_, _/_, _^_, _≤_, _<_}
 use native.Mathlib.Omega.{arith}
 use mathlib.Core.List.{List, [], _∷_}
-use lib.Dec.{leb, ltb, eqb}
+use lib.Dec.{T, leb, ltb, eqb, leb→le, ltb→lt}
 use lib.Bits.{bitAnd}
-use borrow.Author.Tests.{lt-leb, le-leb, lt-ltb, le-ltb, eq-eqb, ne-eqb, not-true, not-false}
+use borrow.Author.Tests.{eq-eqb, ne-eqb, not-true, not-false}
 use Rattle.octets.specs.Lists.{pick, every, some-of, only}
 use Rattle.octets.specs.Bits.{bit}
 use Rattle.octets.proofs.Bits.{low-bit}
-use Rattle.fitting.specs.Fitting.{cnf, dnf, part-fits}
+use Rattle.octets.proofs.Tests.{left, right, T-of, not-or}
+use Rattle.fitting.specs.Fitting.{in-rows, cnf, dnf, part-fits}
 use Rattle.profile.specs.Places.{word, memberAt}
 use Rattle.profile.specs.declared.Member as declared
 use Rattle.profile.specs.Image.{Member}
@@ -164,29 +164,39 @@ module _ (form mask first count : ℕ) (ms : List Member) where
 
 -- ---- one membership
 
-module _ (first count : ℕ) (m : Member) (row : ℕ) (er : row ≡ m .row) where
-  pub rows-below : row < first → of-rows first count m ≡ false
-  rows-below h = ap (λ (b : Bool). b && ltb (m .row) (first + count)) (lt-leb first (m .row) (subst (λ (k : ℕ). k < first) er h))
+-- a row that is one of so many from the first on (i)
+module _ (first count row : ℕ) (i : Bool) (ei : i ≡ in-rows first count row) (y : not i ≡ false) where
+  is-in : T (in-rows first count row)
+  is-in = T-of (sym ei ∙ not-false i y)
 
-  pub rows-above : first + count ≤ row → of-rows first count m ≡ false
-  rows-above h = ap (λ (b : Bool). leb first (m .row) && b) (le-ltb (m .row) (first + count) (subst (λ (k : ℕ). first + count ≤ k) er h)) ∙ and-false (leb first (m .row))
+  pub row-from : first ≤ row
+  row-from = leb→le first row (left (leb first row) (ltb row (first + count)) is-in)
 
-  pub rows-in : first ≤ row → row < first + count → of-rows first count m ≡ true
-  rows-in h k = ap₂ _&&_ (le-leb first (m .row) (subst (λ (k : ℕ). first ≤ k) er h)) (lt-ltb (m .row) (first + count) (subst (λ (j : ℕ). j < first + count) er k))
+  row-to : row < first + count
+  row-to = ltb→lt row (first + count) (right (leb first row) (ltb row (first + count)) is-in)
 
-module _ (want : Bool) (mask first count g : ℕ) (s : List ℕ) (at : ℕ) (m : Numbers) (em : m ≡ memberAt s at) where
-  hits-by : (b : Bool) → of-rows first count (member-from s at) ≡ b → (b && (eqb (word s (at + 2)) g && hit want mask first (member-from s at))) ≡ hits want mask first count g (member-from s at)
-  hits-by b e = sym (ap (λ (b : Bool). b && (eqb (word s (at + 2)) g && hit want mask first (member-from s at))) e)
+  -- its number among them is that of a bit of a mask
+  pub row-few : count ≤ 32 → row - first < 32
+  row-few few = omega (arith, row-from, row-to)
 
-  pub hits-below : m .row < first → false ≡ hits want mask first count g (member-from s at)
-  hits-below h = hits-by false (rows-below first count (member-from s at) (m .row) (row-read s at m em) h)
+  pub row-small : count ≤ 32 → row - first < 4294967296
+  row-small few = omega (arith, row-few few)
 
-  pub hits-above : first + count ≤ m .row → false ≡ hits want mask first count g (member-from s at)
-  hits-above h = hits-by false (rows-above first count (member-from s at) (m .row) (row-read s at m em) h)
+-- a membership's row
+module _ (first count : ℕ) (s : List ℕ) (at : ℕ) (m : Numbers) (em : m ≡ memberAt s at) (i : Bool) (ei : i ≡ in-rows first count (m .row)) where
+  pub rows-read : i ≡ of-rows first count (member-from s at)
+  rows-read = ei ∙ ap (in-rows first count) (row-read s at m em)
 
-  module _ (h : first ≤ m .row) (k : m .row < first + count) where
+module _ (want : Bool) (mask first count g : ℕ) (s : List ℕ) (at : ℕ) (m : Numbers) (em : m ≡ memberAt s at) (i : Bool) (ei : i ≡ in-rows first count (m .row)) where
+  hits-by : (b : Bool) → i ≡ b → (b && (eqb (word s (at + 2)) g && hit want mask first (member-from s at))) ≡ hits want mask first count g (member-from s at)
+  hits-by b e = ap (λ (b : Bool). b && (eqb (word s (at + 2)) g && hit want mask first (member-from s at))) (sym e ∙ rows-read first count s at m em i ei)
+
+  pub hits-out : not i ≡ true → false ≡ hits want mask first count g (member-from s at)
+  hits-out n = hits-by false (not-true i n)
+
+  module _ (y : not i ≡ false) where
     is-hit : (eqb (m .group) g && hit want mask first (member-from s at)) ≡ hits want mask first count g (member-from s at)
-    is-hit = ap (λ (x : ℕ). eqb x g && hit want mask first (member-from s at)) (group-read s at m em) ∙ hits-by true (rows-in first count (member-from s at) (m .row) (row-read s at m em) h k)
+    is-hit = ap (λ (x : ℕ). eqb x g && hit want mask first (member-from s at)) (group-read s at m em) ∙ hits-by true (not-false i y)
 
     the-bit : eqb (bitAnd (mask / 2 ^ (m .row - first)) 1) 1 ≡ marked mask first (member-from s at)
     the-bit = low-bit mask (m .row - first) ∙ ap (λ (x : ℕ). bit mask (x - first)) (row-read s at m em)
@@ -197,18 +207,15 @@ module _ (want : Bool) (mask first count g : ℕ) (s : List ℕ) (at : ℕ) (m :
     pub hits-not : want ≡ false → (eqb (m .group) g && not (eqb (bitAnd (mask / 2 ^ (m .row - first)) 1) 1)) ≡ hits want mask first count g (member-from s at)
     hits-not w = ap (λ (b : Bool). eqb (m .group) g && b) (ap not the-bit ∙ sym (ap (λ (b : Bool). pick b (marked mask first (member-from s at)) (not (marked mask first (member-from s at)))) w)) ∙ is-hit
 
-module _ (want : Bool) (mask first count : ℕ) (ms : List Member) (s : List ℕ) (at : ℕ) (m : Numbers) (em : m ≡ memberAt s at) where
-  holds-by : (b : Bool) → of-rows first count (member-from s at) ≡ b → (not b || group-hit want mask first count (word s (at + 2)) ms) ≡ holds-at want mask first count ms (member-from s at)
-  holds-by b e = sym (ap (λ (b : Bool). not b || group-hit want mask first count (word s (at + 2)) ms) e)
+module _ (want : Bool) (mask first count : ℕ) (ms : List Member) (s : List ℕ) (at : ℕ) (m : Numbers) (em : m ≡ memberAt s at) (i : Bool) (ei : i ≡ in-rows first count (m .row)) where
+  holds-by : (b : Bool) → i ≡ b → (not b || group-hit want mask first count (word s (at + 2)) ms) ≡ holds-at want mask first count ms (member-from s at)
+  holds-by b e = ap (λ (b : Bool). not b || group-hit want mask first count (word s (at + 2)) ms) (sym e ∙ rows-read first count s at m em i ei)
 
-  pub holds-below : m .row < first → true ≡ holds-at want mask first count ms (member-from s at)
-  holds-below h = holds-by false (rows-below first count (member-from s at) (m .row) (row-read s at m em) h)
+  pub holds-out : not i ≡ true → true ≡ holds-at want mask first count ms (member-from s at)
+  holds-out n = holds-by false (not-true i n)
 
-  pub holds-above : first + count ≤ m .row → true ≡ holds-at want mask first count ms (member-from s at)
-  holds-above h = holds-by false (rows-above first count (member-from s at) (m .row) (row-read s at m em) h)
-
-  pub holds-in : (r : Bool) → first ≤ m .row → m .row < first + count → r ≡ group-hit want mask first count (m .group) ms → r ≡ holds-at want mask first count ms (member-from s at)
-  holds-in r h k e = e ∙ ap (λ (x : ℕ). group-hit want mask first count x ms) (group-read s at m em) ∙ holds-by true (rows-in first count (member-from s at) (m .row) (row-read s at m em) h k)
+  pub holds-in : (r : Bool) → not i ≡ false → r ≡ group-hit want mask first count (m .group) ms → r ≡ holds-at want mask first count ms (member-from s at)
+  holds-in r y e = e ∙ ap (λ (x : ℕ). group-hit want mask first count x ms) (group-read s at m em) ∙ holds-by true (not-false i y)
 
 -- ---- the two loops
 

@@ -1,19 +1,15 @@
 -- The memberships outside a trigger's rows may be left out at both ends: no order is asked of them.
-use mathlib.Core.Bool.{Bool, false, _&&_}
-use mathlib.Core.Path.{_≡_, refl, sym, ap, _∙_, subst}
-use Prim.Native.Nat.{ℕ, zero, suc, _+_, _-_, _*_, _≤_, _<_}
+use mathlib.Core.Bool.{Bool, false}
+use mathlib.Core.Path.{_≡_, refl, sym, ap, _∙_}
+use Prim.Native.Nat.{ℕ, zero, suc, _+_, _-_, _*_, _<_}
 use native.Mathlib.Omega.{arith}
 use mathlib.Core.List.{List, [], _∷_, _++_}
-use lib.Dec.{ltb}
 use Rattle.octets.specs.Lists.{pick, only}
 use Rattle.profile.specs.Image.{Member}
-use Rattle.profile.specs.Places.{word, memberAt}
-use Rattle.profile.specs.declared.Member as declared
 use Rattle.profile.specs.Decoded.{member-from}
 use Rattle.fitting.specs.Fitting.{by-form}
-use borrow.Author.Tests.{le-leb}
 use Rattle.fitting.specs.Trigger.{membersAt, of-rows, marked, fits-by, Same-rows}
-use Rattle.fitting.proofs.Members.{members-cons, members-start, rows-below}
+use Rattle.fitting.proofs.Members.{members-cons, members-start}
 
 module _ (p : Member → Bool) where
   only-snoc-by : (l : List Member) (a : Member) → p a ≡ false → only p (l ++ (a ∷ [])) ≡ only p l
@@ -54,14 +50,3 @@ module _ (first count : ℕ) (s : List ℕ) (at n : ℕ) where
       → r ≡ fits-by form mask first count (membersAt s (at + 4 * a) b) → r ≡ fits-by form mask first count (membersAt s at n)
   unfolding fits-by
   fits-there form mask a b n2 r w v e = e ∙ ap (λ (l : List Member). by-form form (marked mask first) l) (v .same ∙ w .same)
-
--- whether a membership is of the rows
-module _ (first count : ℕ) (s : List ℕ) (at : ℕ) (m : declared.Member) (em : m ≡ memberAt s at) where
-  er : m .row ≡ word s at
-  er = ap (λ (x : declared.Member). x .row) em
-
-  pub out-below : m .row < first → false ≡ of-rows first count (member-from s at)
-  out-below h = sym (rows-below first count (member-from s at) (m .row) er h)
-
-  pub out-above : first ≤ m .row → ltb (m .row) (first + count) ≡ of-rows first count (member-from s at)
-  out-above h = ap (λ (k : ℕ). ltb k (first + count)) er ∙ sym (ap (λ (b : Bool). b && ltb (word s at) (first + count)) (le-leb first (word s at) (subst (λ (k : ℕ). first ≤ k) er h)))
