@@ -4,7 +4,6 @@ use mathlib.Core.Path.{_≡_, subst, sym, ap, _∙_}
 use Prim.Native.Nat.{ℕ, _+_, _*_, _≤_}
 use native.Mathlib.Omega.{arith}
 use mathlib.Core.List.{List}
-use lib.ListN.{length}
 use Rattle.profile.specs.Decoded.{criterion-from, criterion-with}
 use Rattle.profile.specs.Image.{Stored, Member}
 use Rattle.profile.specs.Places.{rowAt, criterionAt}
@@ -27,9 +26,6 @@ module _ (s : List ℕ) (strs : List Stored) (start n : ℕ) (w : Ruled s strs s
   ruled-front m h = record { size = w .size; inside = omega (arith, w .inside); matchable = λ k e. w .matchable k (omega arith) }
 
 module _ (s : List ℕ) (strs : List Stored) (start k : ℕ) (w : Ruled s strs start (k + 1)) where
-  pub row-there : (start + 7 * k + 7 ≤ length s) × (length s ≤ 32768)
-  row-there = (omega (arith, w .inside), w .size)
-
   pub row-matchable : (r : Row) → r ≡ rowAt s (start + 7 * k) → Matchable strs r
   row-matchable r e = subst (Matchable strs) (sym e) (w .matchable k (omega arith))
 

@@ -1,17 +1,11 @@
 // The calls as C makes them: numbers and bytes in, numbers out. Nothing but passing on.
 ghost use mathlib.Core.Path.{_≡_};
 ghost use Rattle.ifc.specs.Exports.{session-of, CheckTo, OpenTo, ReportTo, AdvanceTo, ListTo, ServerTo, InformationTo, as-number};
-use listing::Listed;
 use listing::list as list_into;
-use lookups::Checked;
-use lookups::Lookup;
 use lookups::check;
 use lookups::information;
 use lookups::server;
-use route::Advanced;
 use route::advance;
-use session::Opened;
-use session::Reported;
 use session::Session;
 use session::open;
 use session::report as report_on;

@@ -177,12 +177,6 @@ module _ (fold : Bool) (s : List ℕ) (w : Whole s) (old-sets : List (List ℕ))
             in
             record { value = g .value; more = more; drawing = g .drawing; reads = q; is = cc }
 
-    pub fill-room : m .at < 60
-    fill-room =
-        let p : length (f .rest .parts) ≡ suc (length (split .more .parts)) = ap (λ (b : Body). length (b .parts)) (split .is) in
-        let k : m .at + length (f .rest .parts) ≤ 60 = f .few in
-        omega arith
-
     pub fill-more : (i′ : ℕ) (m′ : Marks) (u : List ℕ) (v : ℕ) (t : Bool) → ((x : Atom) → r .set ≡ drawn true x → u ≡ set-as fold x) → t ≡ repeats → i′ ≡ j → m′ ≡ mark m t → v ≡ before-at m t
         → Filling fold s w old-sets old-before i′ false m′ (set ss (m .at) u) (set bs (m .at) v)
     fill-more i′ m′ u v t eu et ei em ev =

@@ -7,7 +7,6 @@ use native.Mathlib.Omega.{arith}
 use mathlib.Core.List.{List, [], _∷_, _++_, map}
 use lib.ListN.{length, take, drop, getD, getElem?, replicate, List·getD-append, length-append, length-drop, length-replicate}
 use lib.Seq.{take-at}
-use Rattle.profile.specs.Image as image
 use Rattle.profile.specs.Image.{Judged, accepted, refused}
 use Rattle.profile.specs.Judging.{judge}
 use Rattle.profile.specs.Out.{good}

@@ -95,14 +95,10 @@ module _ (s : List ℕ) where
   pub laid : (p : places.Profile) → places.judge s ≡ good p → Laid s p
   laid p e = laid-by p image-same e
 
-  -- what is accepted by places is accepted, and is the profile that stands there
-  pub good-accepted : (p : places.Profile) → places.judge s ≡ good p → judging.judge s ≡ accepted (profile-in s)
-  good-accepted p e = judge-same ∙ ap (judged-by s) e
-
   good-of : (o : Out places.Profile) (q : image.Profile) → judged-by s o ≡ accepted q → (p : places.Profile) × (o ≡ good p) × (q ≡ profile-in s)
   good-of (good p) q e = (p, refl, cc)
   good-of (bad n k) q e = let z : _≡_ {A = ℕ} 0 1 = cc in absurd (omega arith)
 
-  -- and the other way round
+  -- what is accepted is accepted by places, and is the profile that stands there
   pub accepted-good : (q : image.Profile) → judging.judge s ≡ accepted q → (p : places.Profile) × (places.judge s ≡ good p) × (q ≡ profile-in s)
   accepted-good q e = good-of (places.judge s) q (sym judge-same ∙ e)

@@ -7,7 +7,6 @@ use mathlib.Core.List.{List}
 use lib.ListN.{length, getElem?}
 use Rattle.octets.proofs.Options.{Ok}
 use Rattle.octets.proofs.Each.{each-at}
-use Rattle.profile.specs.Image as image
 use Rattle.profile.specs.Decoded.{layout, strings, row-from, member-from, criterion-from, profile-in}
 use Rattle.profile.specs.declared.Judgement.{Judgement}
 use Rattle.profile.proofs.Accepted.{Fine, Sound, accepted-sound}
@@ -69,10 +68,3 @@ module _ (s : List ℕ) (j : Judgement) (o : Opened s j) where
   criterion-fine k h =
       subst (λ (n : ℕ). Fine s n (criterion-from (strings s) s (layout s .criteria + 15 * k))) rows-many
       (subst (Ok (Fine s (length (profile-in s .rows)))) (criterion-at k h) (each-at (Fine s (length (profile-in s .rows))) (profile-in s .criteria) k (sound .fine)))
-
-  -- every membership is of a row that there is
-  pub member-in : (k : ℕ) → k < layout s .«member_count» → member-from s (layout s .members + 4 * k) .row < layout s .«row_count»
-  member-in k h =
-      subst (λ (n : ℕ). member-from s (layout s .members + 4 * k) .row < n) rows-many
-      (subst (Ok (λ (m : image.Member). m .row < length (profile-in s .rows))) (member-at k h)
-      (each-at (λ (m : image.Member). m .row < length (profile-in s .rows)) (profile-in s .members) k (sound .members-in)))

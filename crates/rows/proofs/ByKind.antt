@@ -14,9 +14,8 @@ use Rattle.octets.specs.Lists.{pick, same}
 use Rattle.machine.specs.declared.Shape.{Shape}
 use Rattle.pattern.specs.Prepared.{Ready}
 use Rattle.pattern.specs.Reading.{read-pattern}
-use Rattle.profile.specs.Decoded.{string-of, or-empty, pattern-of, or-absent, test-from, row-from}
+use Rattle.profile.specs.Decoded.{string-of, or-empty, pattern-of, or-absent, test-from}
 use Rattle.profile.specs.Image.{Stored, Test, request-uri, method, header, session-case, description}
-use Rattle.profile.specs.Places.{rowAt}
 use Rattle.profile.specs.declared.Row.{Row}
 use Rattle.request.specs.Body.{session-lines, request-lines}
 use Rattle.request.specs.Places.{part}
@@ -186,9 +185,3 @@ module _ (q : Request) (g : Given) (strs : List Stored) (r : Row) (v : Verdict) 
     tried = trials-are;
     few = few;
   }
-
--- for the crates above: the row at a place of an image
-pub tried-from : (q : Request) (g : Given) (strs : List Stored) (s : List ℕ) (at : ℕ) (v : Verdict) → Tried q g (row-of strs (rowAt s at)) v
-    → Tried q g (row-from strs s at) v
-unfolding row-of row-from row-fits row-trials
-tried-from q g strs s at v t = record { fit = t .fit; tried = t .tried; few = t .few }
