@@ -1,0 +1,27 @@
+use Rattle.profile.proofs.Laws.{upTo-yes, upTo-over, upTo-bad, is, refused}
+use borrow.Author.Needs.{needs}
+use Rattle.profile.proofs.fields.up_to.Statement.{statement}
+use Rattle.profile.proofs.fields.up_to.Tie as tie
+
+byte-at-requires : tie.Need-byte-at-requires
+byte-at-requires c κs = search needs
+
+enum-known-v : tie.Need-enum-known-v
+enum-known-v c = search needs
+
+enum-known-number : tie.Need-enum-known-number
+enum-known-number c = search needs
+
+returns : tie.Need-returns
+returns c = search (upTo-yes, is)
+
+returns-2 : tie.Need-returns-2
+returns-2 c = search (upTo-over, is)
+
+returns-3 : tie.Need-returns-3
+returns-3 c = search (upTo-bad, refused)
+
+pub up-to-spec : {M : Type 1} → statement M
+up-to-spec =
+    tie.close
+    (tie.spec byte-at-requires enum-known-v enum-known-number returns returns-2 returns-3)

@@ -1,0 +1,152 @@
+// Section four: the criteria.
+ghost use mathlib.Core.Path.{_≡_};
+ghost use Prim.Native.Nat.{_≤_};
+ghost use Rattle.profile.specs.Places.{texts, ends, long, rowStart, rightCount, rowCount, trigger, rest, readCriteria};
+ghost use Rattle.profile.specs.Answers.{fieldOut, checkOut, passed, Table};
+use crate::Field;
+use crate::fields::exactly_at;
+use crate::fields::long_at;
+use crate::fields::priority;
+use crate::fields::up_to;
+use crate::fields::word_at;
+use crate::strings::index_at;
+use crate::strings::index_or_absent;
+
+// A trigger's first row: 0 for form 2.
+fn row_start(s: &[u8], form: usize, at: usize) -> Field
+    requires { ⌜ at ≤ 200000 ⌝ }
+    ensures { λ r. ⌜ fieldOut r ≡ rowStart (now (s .entry)) form at ⌝ }
+{
+    if form == 2 {
+        exactly_at(s, 0, at)
+    } else {
+        word_at(s, at)
+    }
+}
+
+// Whether n rows from `first` are right for the form.
+fn right_count(rows: usize, form: usize, first: usize, n: usize) -> bool
+    ensures { λ b. ⌜ b ≡ rightCount rows form first n ⌝ }
+{
+    if form == 2 {
+        return n == 0;
+    }
+    if n < 1 {
+        return false;
+    }
+    if 32 < n {
+        return false;
+    }
+    if rows < first {
+        return false;
+    }
+    n <= rows - first
+}
+
+fn row_count(s: &[u8], rows: usize, form: usize, first: usize, at: usize) -> Field
+    requires { ⌜ at ≤ 200000 ⌝ }
+    ensures { λ r. ⌜ fieldOut r ≡ rowCount (now (s .entry)) rows form first at ⌝ }
+{
+    match word_at(s, at) {
+        Field::Is(n) => {
+            if right_count(rows, form, first, n) {
+                Field::Is(n)
+            } else {
+                Field::Refused {
+                    number: 4,
+                    place: at,
+                }
+            }
+        }
+        Field::Refused { number, place } => Field::Refused { number, place },
+    }
+}
+
+// Form, first row and row count.
+fn trigger_at(s: &[u8], rows: usize, at: usize) -> Field
+    requires { ⌜ at ≤ 190000 ⌝ }
+    ensures { λ r. ⌜ checkOut r ≡ passed (trigger (now (s .entry)) rows at) ⌝ }
+{
+    let f = up_to(s, at, 2);
+    let Field::Is(form) = f else {
+        return f;
+    };
+    let g = row_start(s, form, at + 1);
+    let Field::Is(first) = g else {
+        return g;
+    };
+    row_count(s, rows, form, first, at + 3)
+}
+
+// A criterion after its priority: where it ends, or the refusal.
+fn rest_at(s: &[u8], table: &[u16; 1024], n: usize, rows: usize, at: usize) -> Field
+    requires { ⌜ (at ≤ 180000) × Table (now s) n (now table) ⌝ }
+    ensures { λ r. ⌜ fieldOut r ≡ ends (rest (now (s .entry)) (texts (now (s .entry)) n (now (table .entry))) rows (long (now (s .entry)) at) at) ⌝ }
+{
+    let part = up_to(s, at + 4, 2);
+    let Field::Is(_) = part else {
+        return part;
+    };
+    let trigger = trigger_at(s, rows, at + 5);
+    let Field::Is(_) = trigger else {
+        return trigger;
+    };
+    let server = index_at(s, table, n, 0, at + 10);
+    let Field::Is(_) = server else {
+        return server;
+    };
+    let default = up_to(s, at + 12, 2);
+    let Field::Is(_) = default else {
+        return default;
+    };
+    let service = index_or_absent(s, table, n, 5, at + 13);
+    let Field::Is(_) = service else {
+        return service;
+    };
+    Field::Is(at + 15)
+}
+
+// Section 4 after its count: where the criteria end, or the first refusal. A criterion whose priority stands earlier too is
+// found by a scan over the pairs, and the scan is left from inside with its place in `at`.
+pub(crate) fn criteria(
+    s: &[u8],
+    table: &[u16; 1024],
+    strs: usize,
+    rows: usize,
+    n: usize,
+    start: usize,
+) -> Field
+    requires { ⌜ (start ≤ 150000) × (n ≤ 64) × Table (now s) strs (now table) ⌝ }
+    ensures { λ r. ⌜ fieldOut r ≡ ends (readCriteria (now (s .entry)) (texts (now (s .entry)) strs (now (table .entry))) rows n start) ⌝ }
+{
+    let mut at = start;
+    let mut j: usize = 0;
+    let mut repeated = false;
+    'scan: while j < n {
+        let f = long_at(s, at);
+        let Field::Is(p) = f else {
+            return f;
+        };
+        let mut i: usize = 0;
+        while i < j {
+            if priority(s, start + 15 * i) == p {
+                repeated = true;
+                break 'scan;
+            }
+            i += 1;
+        }
+        let g = rest_at(s, table, strs, rows, at);
+        let Field::Is(_) = g else {
+            return g;
+        };
+        at += 15;
+        j += 1;
+    }
+    if repeated {
+        return Field::Refused {
+            number: 6,
+            place: at,
+        };
+    }
+    Field::Is(at)
+}

@@ -1,0 +1,134 @@
+// Section one: the strings, and the fields that name one.
+ghost use mathlib.Core.Path.{_≡_};
+ghost use Prim.Native.Nat.{_+_, _≤_};
+ghost use lib.ListN.{length};
+ghost use Rattle.profile.specs.Places.{sized, named, namedOrAbsent, usable, word, textAt, texts};
+ghost use Rattle.profile.specs.Answers.{fieldOut, Tabled, Filled, Table};
+use crate::Field;
+use crate::fields::count_at;
+use crate::fields::number;
+use crate::fields::word_at;
+
+// The length of the string at `at`, which lies whole in the image.
+fn sized_at(s: &[u8], at: usize) -> Field
+    requires { ⌜ at ≤ 65535 ⌝ }
+    ensures { λ r. ⌜ fieldOut r ≡ sized (now (s .entry)) at ⌝ }
+{
+    match count_at(s, at, 1024) {
+        Field::Is(n) => {
+            if at + 2 + n <= s.len() {
+                Field::Is(n)
+            } else {
+                Field::Refused {
+                    number: 2,
+                    place: s.len(),
+                }
+            }
+        }
+        Field::Refused { number, place } => Field::Refused { number, place },
+    }
+}
+
+// Section 1 after its count: the offset of each string goes into the table.
+pub(crate) fn strings(s: &[u8], n: usize, table: &mut [u16; 1024]) -> Field
+    requires { ⌜ (length (now s) ≤ 32768) × (n ≤ 1024) × (length (now table) ≡ 1024) ⌝ }
+    ensures { λ r. ⌜ Tabled r (now (s .entry)) n (now (table .exit)) ⌝ }
+    ensures filled { λ r. ⌜ Filled r (now (s .entry)) n (now (table .entry)) (now (table .exit)) ⌝ }
+{
+    let mut at: usize = 3;
+    let mut k: usize = 0;
+    while k < n {
+        match sized_at(s, at) {
+            Field::Is(len) => {
+                table[k] = at as u16;
+                at = at + 2 + len;
+                k += 1;
+            }
+            Field::Refused { number, place } => {
+                return Field::Refused { number, place };
+            }
+        }
+    }
+    Field::Is(at)
+}
+
+// The bytes of the string at an offset: a part of the image, no copy.
+pub(crate) fn text(s: &[u8], o: usize) -> &[u8]
+    requires { ⌜ o + 2 + word (now s) o ≤ length (now s) ⌝ }
+    ensures { λ r. ⌜ now r ≡ textAt (now (s .entry)) o ⌝ }
+{
+    let n = number(s, o);
+    let a = o + 2;
+    let e = a + n;
+    &s[a..e]
+}
+
+// Whether a string may be used so: 0 RequestURI or server, 1 Method, 2 and 4 patterns, 5 service information.
+fn fits_use(t: &[u8], purpose: usize) -> bool
+    ensures { λ r. ⌜ r ≡ usable purpose (now (t .entry)) ⌝ }
+{
+    if purpose == 1 {
+        return octets::is_token(t);
+    }
+    if purpose == 2 {
+        return pattern::is_pattern(t);
+    }
+    if purpose == 4 {
+        return pattern::is_pattern(t);
+    }
+    if purpose == 5 {
+        return true;
+    }
+    t.len() != 0
+}
+
+// A string index in the table, of a string that may be used so.
+pub(crate) fn index_at(s: &[u8], table: &[u16; 1024], n: usize, purpose: usize, at: usize) -> Field
+    requires { ⌜ (at ≤ 200000) × Table (now s) n (now table) ⌝ }
+    ensures { λ r. ⌜ fieldOut r ≡ named (now (s .entry)) (texts (now (s .entry)) n (now (table .entry))) purpose at ⌝ }
+{
+    match word_at(s, at) {
+        Field::Is(i) => {
+            if n <= i {
+                return Field::Refused {
+                    number: 4,
+                    place: at,
+                };
+            }
+            let o = octets::as_index(table[i]);
+            let t = text(s, o);
+            if fits_use(t, purpose) {
+                Field::Is(i)
+            } else {
+                Field::Refused {
+                    number: 5,
+                    place: at,
+                }
+            }
+        }
+        Field::Refused { number, place } => Field::Refused { number, place },
+    }
+}
+
+// A string index of a string that may be used so, or 65535.
+pub(crate) fn index_or_absent(
+    s: &[u8],
+    table: &[u16; 1024],
+    n: usize,
+    purpose: usize,
+    at: usize,
+) -> Field
+    requires { ⌜ (at ≤ 200000) × Table (now s) n (now table) ⌝ }
+    ensures { λ r. ⌜ fieldOut r ≡ namedOrAbsent (now (s .entry)) (texts (now (s .entry)) n (now (table .entry))) purpose at ⌝ }
+{
+    match word_at(s, at) {
+        Field::Is(i) => {
+            if i == 65535 {
+                Field::Is(i)
+            } else {
+                index_at(s, table, n, purpose, at)
+            }
+        }
+        Field::Refused { number, place } => Field::Refused { number, place },
+    }
+}
