@@ -20,7 +20,7 @@ use Rattle.request.specs.Searching.{first}
 use Rattle.request.specs.Steps.{start-places, lines-from, judged}
 use Rattle.request.specs.declared.Judged.{Judged}
 use Rattle.request.specs.declared.Judged.the-variants.{Refused, Accepted}
-use Rattle.request.specs.declared.StartLine.the-variants.{Bad}
+use Rattle.request.specs.declared.start_lines.StartLine.the-variants.{Bad}
 use Rattle.request.proofs.Head.{Pairs, pairs, pairs-paired}
 use Rattle.request.proofs.Judging.{Starts, starts, cr, built, head-built, judge-long, judge-endless, judge-bytes, read-by-test, head-is-front}
 use Rattle.request.proofs.Parts.{part-front, length-part}

@@ -16,7 +16,7 @@ use Rattle.request.specs.Cutting.{begins, first-cut}
 use Rattle.request.specs.Places.{head-of}
 use Rattle.request.specs.Request.{head-byte, paired, empty-line}
 use Rattle.request.specs.Steps.{control-size, ends-right, head-place}
-use Rattle.request.specs.declared.HeadPlace.the-variants.{Wrong, Ends}
+use Rattle.request.specs.declared.head_bytes.HeadPlace.the-variants.{Wrong, Ends}
 use Rattle.request.proofs.Search.{head-byte-on, head-none}
 
 -- ---- its bytes

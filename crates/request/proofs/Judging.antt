@@ -20,12 +20,12 @@ use Rattle.request.specs.Places.{before-cut, head-of, first-line, fields
 use Rattle.request.specs.Request.{Field, Request, Start, head-byte, paired, head-lines, continues, whole-fields, start-line, field, all-fields, head, empty-line, read-request, bytes-right}
 use Rattle.request.specs.Searching.{first}
 use Rattle.request.specs.Steps.{ends-right, head-place, start-places, is-some, is-field, lines-from, judged}
-use Rattle.request.specs.declared.HeadPlace.{HeadPlace}
-use Rattle.request.specs.declared.HeadPlace.the-variants.{Wrong, Ends}
+use Rattle.request.specs.declared.head_bytes.HeadPlace.{HeadPlace}
+use Rattle.request.specs.declared.head_bytes.HeadPlace.the-variants.{Wrong, Ends}
 use Rattle.request.specs.declared.Judged.{Judged}
 use Rattle.request.specs.declared.Judged.the-variants.{Refused, Accepted}
-use Rattle.request.specs.declared.StartLine.{StartLine}
-use Rattle.request.specs.declared.StartLine.the-variants.{Bad, Good}
+use Rattle.request.specs.declared.start_lines.StartLine.{StartLine}
+use Rattle.request.specs.declared.start_lines.StartLine.the-variants.{Bad, Good}
 use Rattle.request.proofs.Head.{Pairs, pairs-end, pairs-byte, pairs-fold, pairs, pairs-paired}
 use Rattle.request.proofs.Lines.{lines-byte, continues-at, from-suc, from-start}
 use Rattle.request.proofs.Search.{first-le, first-no, cut-found, cut-missing, head-end}

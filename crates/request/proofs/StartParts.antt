@@ -23,7 +23,7 @@ use Rattle.request.specs.Places.{part}
 use Rattle.request.specs.Request.{Start, three, start-line, parts-right}
 use Rattle.request.specs.Searching.{first, word-byte}
 use Rattle.request.specs.Steps.{start-places}
-use Rattle.request.specs.declared.StartLine.the-variants.{Bad, Good}
+use Rattle.request.specs.declared.start_lines.StartLine.the-variants.{Bad, Good}
 use Rattle.request.proofs.Cuts.{cut-on, cut-last, nonempty}
 
 -- ---- words

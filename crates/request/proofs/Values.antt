@@ -16,8 +16,8 @@ use Rattle.request.specs.Searching.{first, span, text-here}
 use Rattle.request.specs.Steps.{mode-of}
 use Rattle.request.specs.Values.{Mode, plain, quoted, escaped, angle, step, cuts, trim-left, trim-right, trim, pieces, never-cut, values-of}
 use Rattle.request.specs.declared.Piece.{Piece}
-use Rattle.request.specs.declared.Within.{Within}
-use Rattle.request.specs.declared.Within.the-variants.{Text, Quotes, Escape, Angles}
+use Rattle.request.specs.declared.pieces.Within.{Within}
+use Rattle.request.specs.declared.pieces.Within.the-variants.{Text, Quotes, Escape, Angles}
 use Rattle.request.proofs.Cuts.{pieces-from, span-yes, span-no, span-le, splits, piece-from}
 use Rattle.request.proofs.Parts.{drop-take, length-part}
 use Rattle.request.proofs.Search.{Came, came-next, came-found, first-le, first-yes, first-no}

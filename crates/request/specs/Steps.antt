@@ -12,14 +12,14 @@ use Rattle.request.specs.Cutting.{begins, cut-by}
 use Rattle.request.specs.Places.{head-of, fields-start, line-starts, line-colons}
 use Rattle.request.specs.Request.{paired, bytes-right, head-lines, Start, whole-fields, field, Request}
 use Rattle.request.specs.Values.{Mode, plain, quoted, escaped, angle}
-use Rattle.request.specs.declared.HeadPlace.{HeadPlace}
-use Rattle.request.specs.declared.HeadPlace.the-variants.{Wrong, Ends}
+use Rattle.request.specs.declared.head_bytes.HeadPlace.{HeadPlace}
+use Rattle.request.specs.declared.head_bytes.HeadPlace.the-variants.{Wrong, Ends}
 use Rattle.request.specs.declared.Judged.{Judged}
 use Rattle.request.specs.declared.Judged.the-variants.{Refused, Accepted}
-use Rattle.request.specs.declared.StartLine.{StartLine}
-use Rattle.request.specs.declared.StartLine.the-variants.{Bad, Good}
-use Rattle.request.specs.declared.Within.{Within}
-use Rattle.request.specs.declared.Within.the-variants.{Text, Quotes, Escape, Angles}
+use Rattle.request.specs.declared.start_lines.StartLine.{StartLine}
+use Rattle.request.specs.declared.start_lines.StartLine.the-variants.{Bad, Good}
+use Rattle.request.specs.declared.pieces.Within.{Within}
+use Rattle.request.specs.declared.pieces.Within.the-variants.{Text, Quotes, Escape, Angles}
 
 -- ---- the head
 

@@ -1,0 +1,160 @@
+// Values: reduced, and cut at commas.
+ghost use mathlib.Core.Path.{_≡_};
+ghost use Prim.Native.Nat.{_+_, _≤_};
+ghost use lib.ListN.{length, drop};
+ghost use Rattle.request.specs.Places.{over, piece-at};
+ghost use Rattle.request.specs.Searching.{first, span, text-here, space};
+ghost use Rattle.request.specs.Steps.{mode-of};
+ghost use Rattle.request.specs.Values.{plain, step, cuts, reduced, never-cut};
+use crate::Piece;
+use crate::field_lines::is_white;
+use crate::field_lines::trimmed_end;
+
+// Where a byte of a value stands: in plain text, in quoted text, in it just after `\`, or in `<>`.
+pub(crate) enum Within {
+    Text,
+    Quotes,
+    Escape,
+    Angles,
+}
+
+// SP, HTAB, or the CR or LF of a fold.
+fn is_space(b: u8) -> bool
+    ensures { λ r. ⌜ r ≡ space b ⌝ }
+{
+    (b == 32) | (b == 9) | (b == 10) | (b == 13)
+}
+
+// Writes the value as document 01 reads it to the front of the lent place: no white space at the ends, one SP for each run inside. It answers
+// how many bytes it wrote.
+pub fn normalise(raw: &[u8], dst: &mut [u8]) -> usize
+    requires { ⌜ length (now raw) ≤ length (now dst) ⌝ }
+    ensures { λ r. ⌜ (r ≡ length (reduced (now (raw .entry)))) × (now (dst .exit) ≡ over (reduced (now (raw .entry))) (now (dst .entry))) ⌝ }
+{
+    let mut gap = false;
+    let mut n: usize = 0;
+    let mut i: usize = 0;
+    while i < raw.len() {
+        let b = raw[i];
+        i += 1;
+        if is_space(b) {
+            gap = 0 < n;
+        } else {
+            if gap {
+                dst[n] = 32;
+                dst[n + 1] = b;
+                n += 2;
+                gap = false;
+            } else {
+                dst[n] = b;
+                n += 1;
+            }
+        }
+    }
+    n
+}
+
+// "Never cut: .., in any case" (document 01).
+pub fn never_cut(name: &[u8]) -> bool
+    ensures { λ r. ⌜ r ≡ never-cut (now (name .entry)) ⌝ }
+{
+    let a = octets::same_letters(name, b"Authorization");
+    let b = octets::same_letters(name, b"Proxy-Authorization");
+    let c = octets::same_letters(name, b"WWW-Authenticate");
+    let d = octets::same_letters(name, b"Proxy-Authenticate");
+    let e = octets::same_letters(name, b"Date");
+    let f = octets::same_letters(name, b"Subject");
+    a | b | c | d | e | f
+}
+
+fn next_within(w: Within, b: u8) -> Within
+    ensures { λ r. ⌜ mode-of r ≡ step (mode-of w) b ⌝ }
+{
+    match w {
+        Within::Text => {
+            if b == 34 {
+                return Within::Quotes;
+            }
+            if b == 60 {
+                return Within::Angles;
+            }
+            Within::Text
+        }
+        Within::Quotes => {
+            if b == 92 {
+                return Within::Escape;
+            }
+            if b == 34 {
+                return Within::Text;
+            }
+            Within::Quotes
+        }
+        Within::Escape => Within::Quotes,
+        Within::Angles => {
+            if b == 62 {
+                return Within::Text;
+            }
+            Within::Angles
+        }
+    }
+}
+
+// Whether a byte is a comma that cuts.
+fn cuts_here(w: Within, b: u8) -> bool
+    ensures { λ r. ⌜ r ≡ cuts (mode-of w) b ⌝ }
+{
+    match w {
+        Within::Text => b == 44,
+        Within::Quotes => false,
+        Within::Escape => false,
+        Within::Angles => false,
+    }
+}
+
+// The end of the piece of a value that starts at a place.
+fn piece_end(v: &[u8], from: usize) -> usize
+    requires { ⌜ from ≤ length (now v) ⌝ }
+    ensures { λ r. ⌜ r ≡ from + span cuts step plain (drop from (now (v .entry))) ⌝ }
+{
+    let mut w = Within::Text;
+    let mut i = from;
+    while i < v.len() {
+        let b = v[i];
+        if cuts_here(w, b) {
+            return i;
+        }
+        w = next_within(w, b);
+        i += 1;
+    }
+    i
+}
+
+// How many SP and HTAB stand at the left end.
+fn blanks(t: &[u8]) -> usize
+    ensures { λ r. ⌜ r ≡ first text-here (now (t .entry)) ⌝ }
+{
+    let mut i: usize = 0;
+    while i < t.len() {
+        let b = t[i];
+        if !is_white(b) {
+            return i;
+        }
+        i += 1;
+    }
+    i
+}
+
+// The piece that starts at a place of a reduced value.
+pub fn next_value(v: &[u8], from: usize) -> Piece
+    requires { ⌜ (from ≤ length (now v)) × (length (now v) ≤ 65535) ⌝ }
+    ensures { λ r. ⌜ r ≡ piece-at (now (v .entry)) from ⌝ }
+{
+    let k = piece_end(v, from);
+    let stop = from + trimmed_end(&v[from..k]);
+    let a = blanks(&v[from..stop]);
+    Piece {
+        start: from + a,
+        end: stop,
+        next: k + 1,
+    }
+}
