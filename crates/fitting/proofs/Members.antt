@@ -12,20 +12,20 @@ use Rattle.octets.specs.Bits.{bit}
 use Rattle.octets.proofs.Bits.{low-bit}
 use Rattle.octets.proofs.Tests.{left, right, T-of, not-or}
 use Rattle.fitting.specs.Fitting.{in-rows, cnf, dnf, part-fits}
-use Rattle.profile.specs.Places.{word, memberAt}
+use Rattle.profile.specs.Places.{word, member-numbers}
 use Rattle.profile.specs.declared.Member as declared
 use Rattle.profile.specs.Image.{Member}
 use Rattle.profile.specs.Decoded.{member-from}
-use Rattle.fitting.specs.Trigger.{membersAt, of-rows, marked, hit, fits-by, groups-hold, group-hit, hits, holds-at}
+use Rattle.fitting.specs.Trigger.{members-at, of-rows, marked, hit, fits-by, groups-hold, group-hit, hits, holds-at}
 
 -- a membership as it is read
 abbrev Numbers : Type 0
 Numbers = declared.Member
 
-row-read : (s : List ℕ) (at : ℕ) (m : Numbers) → m ≡ memberAt s at → m .row ≡ word s at
+row-read : (s : List ℕ) (at : ℕ) (m : Numbers) → m ≡ member-numbers s at → m .row ≡ word s at
 row-read s at m em = ap (λ (x : Numbers). x .row) em
 
-group-read : (s : List ℕ) (at : ℕ) (m : Numbers) → m ≡ memberAt s at → m .group ≡ word s (at + 2)
+group-read : (s : List ℕ) (at : ℕ) (m : Numbers) → m ≡ member-numbers s at → m .group ≡ word s (at + 2)
 group-read s at m em = ap (λ (x : Numbers). x .group) em
 
 -- ---- tests over what passes another
@@ -49,38 +49,38 @@ module _ {A : Type 0} (p f : A → Bool) where
 
 -- ---- the memberships from a place on
 
-pub members-cons : (s : List ℕ) (at n i : ℕ) → i < n → membersAt s (at + 4 * i) (n - i) ≡ member-from s (at + 4 * i) ∷ membersAt s (at + 4 * (i + 1)) (n - (i + 1))
-unfolding membersAt
+pub members-cons : (s : List ℕ) (at n i : ℕ) → i < n → members-at s (at + 4 * i) (n - i) ≡ member-from s (at + 4 * i) ∷ members-at s (at + 4 * (i + 1)) (n - (i + 1))
+unfolding members-at
 members-cons s at n i h =
     let e : n - i ≡ suc (n - (i + 1)) = omega arith in
     let k : at + 4 * i + 4 ≡ at + 4 * (i + 1) = omega arith in
-    ap (λ (j : ℕ). membersAt s (at + 4 * i) j) e ∙ ap (λ (j : ℕ). member-from s (at + 4 * i) ∷ membersAt s j (n - (i + 1))) k
+    ap (λ (j : ℕ). members-at s (at + 4 * i) j) e ∙ ap (λ (j : ℕ). member-from s (at + 4 * i) ∷ members-at s j (n - (i + 1))) k
 
-members-none : (s : List ℕ) (at n i : ℕ) → n ≤ i → membersAt s at (n - i) ≡ []
-unfolding membersAt
-members-none s at n i h = let e : n - i ≡ 0 = omega arith in ap (λ (j : ℕ). membersAt s at j) e
+members-none : (s : List ℕ) (at n i : ℕ) → n ≤ i → members-at s at (n - i) ≡ []
+unfolding members-at
+members-none s at n i h = let e : n - i ≡ 0 = omega arith in ap (λ (j : ℕ). members-at s at j) e
 
-pub members-start : (s : List ℕ) (at n : ℕ) → membersAt s (at + 4 * 0) (n - 0) ≡ membersAt s at n
-members-start s at n = let e : at + 4 * 0 ≡ at = omega arith in let k : n - 0 ≡ n = omega arith in ap₂ (λ (a j : ℕ). membersAt s a j) e k
+pub members-start : (s : List ℕ) (at n : ℕ) → members-at s (at + 4 * 0) (n - 0) ≡ members-at s at n
+members-start s at n = let e : at + 4 * 0 ≡ at = omega arith in let k : n - 0 ≡ n = omega arith in ap₂ (λ (a j : ℕ). members-at s a j) e k
 
 -- all of them pass, so far
 pub record All (f : Member → Bool) (s : List ℕ) (at n i : ℕ) (whole : Bool) : Type 0 where
   pub inside : i ≤ n
-  pub same : every f (membersAt s (at + 4 * i) (n - i)) ≡ whole
+  pub same : every f (members-at s (at + 4 * i) (n - i)) ≡ whole
 
 module _ (f : Member → Bool) (s : List ℕ) (at n : ℕ) where
-  pub all-first : All f s at n 0 (every f (membersAt s at n))
+  pub all-first : All f s at n 0 (every f (members-at s at n))
   all-first = record { inside = omega arith; same = ap (every f) (members-start s at n) }
 
   module _ (i : ℕ) (whole : Bool) (h : All f s at n i whole) where
-    all-step : i < n → (f (member-from s (at + 4 * i)) && every f (membersAt s (at + 4 * (i + 1)) (n - (i + 1)))) ≡ whole
+    all-step : i < n → (f (member-from s (at + 4 * i)) && every f (members-at s (at + 4 * (i + 1)) (n - (i + 1)))) ≡ whole
     all-step k = sym (ap (every f) (members-cons s at n i k)) ∙ h .same
 
     pub all-next : i < n → f (member-from s (at + 4 * i)) ≡ true → All f s at n (i + 1) whole
-    all-next k e = record { inside = omega arith; same = sym (ap (λ (b : Bool). b && every f (membersAt s (at + 4 * (i + 1)) (n - (i + 1)))) e) ∙ all-step k }
+    all-next k e = record { inside = omega arith; same = sym (ap (λ (b : Bool). b && every f (members-at s (at + 4 * (i + 1)) (n - (i + 1)))) e) ∙ all-step k }
 
     pub all-no : i < n → f (member-from s (at + 4 * i)) ≡ false → false ≡ whole
-    all-no k e = sym (ap (λ (b : Bool). b && every f (membersAt s (at + 4 * (i + 1)) (n - (i + 1)))) e) ∙ all-step k
+    all-no k e = sym (ap (λ (b : Bool). b && every f (members-at s (at + 4 * (i + 1)) (n - (i + 1)))) e) ∙ all-step k
 
     pub all-end : n ≤ i → true ≡ whole
     all-end k = sym (ap (every f) (members-none s (at + 4 * i) n i k)) ∙ h .same
@@ -88,21 +88,21 @@ module _ (f : Member → Bool) (s : List ℕ) (at n : ℕ) where
 -- none of them passes, so far
 pub record Any (f : Member → Bool) (s : List ℕ) (at n i : ℕ) (whole : Bool) : Type 0 where
   pub inside : i ≤ n
-  pub same : some-of f (membersAt s (at + 4 * i) (n - i)) ≡ whole
+  pub same : some-of f (members-at s (at + 4 * i) (n - i)) ≡ whole
 
 module _ (f : Member → Bool) (s : List ℕ) (at n : ℕ) where
-  pub any-first : Any f s at n 0 (some-of f (membersAt s at n))
+  pub any-first : Any f s at n 0 (some-of f (members-at s at n))
   any-first = record { inside = omega arith; same = ap (some-of f) (members-start s at n) }
 
   module _ (i : ℕ) (whole : Bool) (h : Any f s at n i whole) where
-    any-step : i < n → (f (member-from s (at + 4 * i)) || some-of f (membersAt s (at + 4 * (i + 1)) (n - (i + 1)))) ≡ whole
+    any-step : i < n → (f (member-from s (at + 4 * i)) || some-of f (members-at s (at + 4 * (i + 1)) (n - (i + 1)))) ≡ whole
     any-step k = sym (ap (some-of f) (members-cons s at n i k)) ∙ h .same
 
     pub any-next : i < n → f (member-from s (at + 4 * i)) ≡ false → Any f s at n (i + 1) whole
-    any-next k e = record { inside = omega arith; same = sym (ap (λ (b : Bool). b || some-of f (membersAt s (at + 4 * (i + 1)) (n - (i + 1)))) e) ∙ any-step k }
+    any-next k e = record { inside = omega arith; same = sym (ap (λ (b : Bool). b || some-of f (members-at s (at + 4 * (i + 1)) (n - (i + 1)))) e) ∙ any-step k }
 
     pub any-yes : i < n → f (member-from s (at + 4 * i)) ≡ true → true ≡ whole
-    any-yes k e = sym (ap (λ (b : Bool). b || some-of f (membersAt s (at + 4 * (i + 1)) (n - (i + 1)))) e) ∙ any-step k
+    any-yes k e = sym (ap (λ (b : Bool). b || some-of f (members-at s (at + 4 * (i + 1)) (n - (i + 1)))) e) ∙ any-step k
 
     pub any-end : n ≤ i → false ≡ whole
     any-end k = sym (ap (some-of f) (members-none s (at + 4 * i) n i k)) ∙ h .same
@@ -183,11 +183,11 @@ module _ (first count row : ℕ) (i : Bool) (ei : i ≡ in-rows first count row)
   row-small few = omega (arith, row-few few)
 
 -- a membership's row
-module _ (first count : ℕ) (s : List ℕ) (at : ℕ) (m : Numbers) (em : m ≡ memberAt s at) (i : Bool) (ei : i ≡ in-rows first count (m .row)) where
+module _ (first count : ℕ) (s : List ℕ) (at : ℕ) (m : Numbers) (em : m ≡ member-numbers s at) (i : Bool) (ei : i ≡ in-rows first count (m .row)) where
   pub rows-read : i ≡ of-rows first count (member-from s at)
   rows-read = ei ∙ ap (in-rows first count) (row-read s at m em)
 
-module _ (want : Bool) (mask first count g : ℕ) (s : List ℕ) (at : ℕ) (m : Numbers) (em : m ≡ memberAt s at) (i : Bool) (ei : i ≡ in-rows first count (m .row)) where
+module _ (want : Bool) (mask first count g : ℕ) (s : List ℕ) (at : ℕ) (m : Numbers) (em : m ≡ member-numbers s at) (i : Bool) (ei : i ≡ in-rows first count (m .row)) where
   hits-by : (b : Bool) → i ≡ b → (b && (eqb (word s (at + 2)) g && hit want mask first (member-from s at))) ≡ hits want mask first count g (member-from s at)
   hits-by b e = ap (λ (b : Bool). b && (eqb (word s (at + 2)) g && hit want mask first (member-from s at))) (sym e ∙ rows-read first count s at m em i ei)
 
@@ -207,7 +207,7 @@ module _ (want : Bool) (mask first count g : ℕ) (s : List ℕ) (at : ℕ) (m :
     pub hits-not : want ≡ false → (eqb (m .group) g && not (eqb (bitAnd (mask / 2 ^ (m .row - first)) 1) 1)) ≡ hits want mask first count g (member-from s at)
     hits-not w = ap (λ (b : Bool). eqb (m .group) g && b) (ap not the-bit ∙ sym (ap (λ (b : Bool). pick b (marked mask first (member-from s at)) (not (marked mask first (member-from s at)))) w)) ∙ is-hit
 
-module _ (want : Bool) (mask first count : ℕ) (ms : List Member) (s : List ℕ) (at : ℕ) (m : Numbers) (em : m ≡ memberAt s at) (i : Bool) (ei : i ≡ in-rows first count (m .row)) where
+module _ (want : Bool) (mask first count : ℕ) (ms : List Member) (s : List ℕ) (at : ℕ) (m : Numbers) (em : m ≡ member-numbers s at) (i : Bool) (ei : i ≡ in-rows first count (m .row)) where
   holds-by : (b : Bool) → i ≡ b → (not b || group-hit want mask first count (word s (at + 2)) ms) ≡ holds-at want mask first count ms (member-from s at)
   holds-by b e = ap (λ (b : Bool). not b || group-hit want mask first count (word s (at + 2)) ms) (sym e ∙ rows-read first count s at m em i ei)
 
@@ -220,44 +220,44 @@ module _ (want : Bool) (mask first count : ℕ) (ms : List Member) (s : List ℕ
 -- ---- the two loops
 
 pub record Seeking (want : Bool) (mask first count g : ℕ) (s : List ℕ) (at n i : ℕ) : Type 0 where
-  pub so-far : Any (hits want mask first count g) s at n i (group-hit want mask first count g (membersAt s at n))
+  pub so-far : Any (hits want mask first count g) s at n i (group-hit want mask first count g (members-at s at n))
 
 pub record Holding (want : Bool) (mask first count : ℕ) (s : List ℕ) (at n i : ℕ) : Type 0 where
-  pub so-far : All (holds-at want mask first count (membersAt s at n)) s at n i (groups-hold want mask first count (membersAt s at n))
+  pub so-far : All (holds-at want mask first count (members-at s at n)) s at n i (groups-hold want mask first count (members-at s at n))
 
 module _ (want : Bool) (mask first count g : ℕ) (s : List ℕ) (at n : ℕ) where
   pub seek-first : Seeking want mask first count g s at n 0
   seek-first = record {
-    so-far = subst (λ (b : Bool). Any (hits want mask first count g) s at n 0 b) (hits-all want mask first count g (membersAt s at n)) (any-first (hits want mask first count g) s at n);
+    so-far = subst (λ (b : Bool). Any (hits want mask first count g) s at n 0 b) (hits-all want mask first count g (members-at s at n)) (any-first (hits want mask first count g) s at n);
   }
 
   module _ (i : ℕ) (h : Seeking want mask first count g s at n i) where
     pub seek-next : (r : Bool) → i < n → r ≡ hits want mask first count g (member-from s (at + 4 * i)) → r ≡ false → Seeking want mask first count g s at n (i + 1)
-    seek-next r k e f = record { so-far = any-next (hits want mask first count g) s at n i (group-hit want mask first count g (membersAt s at n)) (h .so-far) k (sym e ∙ f) }
+    seek-next r k e f = record { so-far = any-next (hits want mask first count g) s at n i (group-hit want mask first count g (members-at s at n)) (h .so-far) k (sym e ∙ f) }
 
-    pub seek-yes : (r : Bool) → i < n → r ≡ hits want mask first count g (member-from s (at + 4 * i)) → r ≡ true → true ≡ group-hit want mask first count g (membersAt s at n)
-    seek-yes r k e f = any-yes (hits want mask first count g) s at n i (group-hit want mask first count g (membersAt s at n)) (h .so-far) k (sym e ∙ f)
+    pub seek-yes : (r : Bool) → i < n → r ≡ hits want mask first count g (member-from s (at + 4 * i)) → r ≡ true → true ≡ group-hit want mask first count g (members-at s at n)
+    seek-yes r k e f = any-yes (hits want mask first count g) s at n i (group-hit want mask first count g (members-at s at n)) (h .so-far) k (sym e ∙ f)
 
-    pub seek-end : n ≤ i → false ≡ group-hit want mask first count g (membersAt s at n)
-    seek-end k = any-end (hits want mask first count g) s at n i (group-hit want mask first count g (membersAt s at n)) (h .so-far) k
+    pub seek-end : n ≤ i → false ≡ group-hit want mask first count g (members-at s at n)
+    seek-end k = any-end (hits want mask first count g) s at n i (group-hit want mask first count g (members-at s at n)) (h .so-far) k
 
 module _ (want : Bool) (mask first count : ℕ) (s : List ℕ) (at n : ℕ) where
   pub hold-first : Holding want mask first count s at n 0
   hold-first = record {
-    so-far = subst (λ (b : Bool). All (holds-at want mask first count (membersAt s at n)) s at n 0 b) (holds-all want mask first count (membersAt s at n)) (all-first (holds-at want mask first count (membersAt s at n)) s at n);
+    so-far = subst (λ (b : Bool). All (holds-at want mask first count (members-at s at n)) s at n 0 b) (holds-all want mask first count (members-at s at n)) (all-first (holds-at want mask first count (members-at s at n)) s at n);
   }
 
   module _ (i : ℕ) (h : Holding want mask first count s at n i) where
-    pub hold-next : (r : Bool) → i < n → r ≡ holds-at want mask first count (membersAt s at n) (member-from s (at + 4 * i)) → not r ≡ false → Holding want mask first count s at n (i + 1)
+    pub hold-next : (r : Bool) → i < n → r ≡ holds-at want mask first count (members-at s at n) (member-from s (at + 4 * i)) → not r ≡ false → Holding want mask first count s at n (i + 1)
     hold-next r k e f = record {
-      so-far = all-next (holds-at want mask first count (membersAt s at n)) s at n i (groups-hold want mask first count (membersAt s at n)) (h .so-far) k (sym e ∙ not-false r f);
+      so-far = all-next (holds-at want mask first count (members-at s at n)) s at n i (groups-hold want mask first count (members-at s at n)) (h .so-far) k (sym e ∙ not-false r f);
     }
 
-    pub hold-no : (r : Bool) → i < n → r ≡ holds-at want mask first count (membersAt s at n) (member-from s (at + 4 * i)) → not r ≡ true → false ≡ groups-hold want mask first count (membersAt s at n)
-    hold-no r k e f = all-no (holds-at want mask first count (membersAt s at n)) s at n i (groups-hold want mask first count (membersAt s at n)) (h .so-far) k (sym e ∙ not-true r f)
+    pub hold-no : (r : Bool) → i < n → r ≡ holds-at want mask first count (members-at s at n) (member-from s (at + 4 * i)) → not r ≡ true → false ≡ groups-hold want mask first count (members-at s at n)
+    hold-no r k e f = all-no (holds-at want mask first count (members-at s at n)) s at n i (groups-hold want mask first count (members-at s at n)) (h .so-far) k (sym e ∙ not-true r f)
 
-    pub hold-end : n ≤ i → true ≡ groups-hold want mask first count (membersAt s at n)
-    hold-end k = all-end (holds-at want mask first count (membersAt s at n)) s at n i (groups-hold want mask first count (membersAt s at n)) (h .so-far) k
+    pub hold-end : n ≤ i → true ≡ groups-hold want mask first count (members-at s at n)
+    hold-end k = all-end (holds-at want mask first count (members-at s at n)) s at n i (groups-hold want mask first count (members-at s at n)) (h .so-far) k
 
 -- ---- the part
 

@@ -6,7 +6,7 @@ use native.Mathlib.Omega.{arith}
 use mathlib.Core.List.{List}
 use Rattle.profile.specs.Decoded.{criterion-from, criterion-with}
 use Rattle.profile.specs.Image.{Stored, Member}
-use Rattle.profile.specs.Places.{rowAt, criterionAt}
+use Rattle.profile.specs.Places.{row-numbers, criterion-numbers}
 use Rattle.profile.specs.declared.Criterion.{Criterion}
 use Rattle.profile.specs.declared.Row.{Row}
 use Rattle.request.specs.Request.{Request}
@@ -26,23 +26,23 @@ module _ (s : List ℕ) (strs : List Stored) (start n : ℕ) (w : Ruled s strs s
   ruled-front m h = record { size = w .size; inside = omega (arith, w .inside); matchable = λ k e. w .matchable k (omega arith) }
 
 module _ (s : List ℕ) (strs : List Stored) (start k : ℕ) (w : Ruled s strs start (k + 1)) where
-  pub row-matchable : (r : Row) → r ≡ rowAt s (start + 7 * k) → Matchable strs r
+  pub row-matchable : (r : Row) → r ≡ row-numbers s (start + 7 * k) → Matchable strs r
   row-matchable r e = subst (Matchable strs) (sym e) (w .matchable k (omega arith))
 
 -- a row that was tried is row k
-pub tried-nth : (q : Request) (g : Given) (strs : List Stored) (s : List ℕ) (start k : ℕ) (r : Row) (v : Verdict) → r ≡ rowAt s (start + 7 * k) → Tried q g (row-of strs r) v
+pub tried-nth : (q : Request) (g : Given) (strs : List Stored) (s : List ℕ) (start k : ℕ) (r : Row) (v : Verdict) → r ≡ row-numbers s (start + 7 * k) → Tried q g (row-of strs r) v
     → TriedRow (fits-in q g strs s start) (trials-in q strs s start) k v
 unfolding fits-in trials-in
 tried-nth q g strs s start k r v e h =
-    let t : Tried q g (row-of strs (rowAt s (start + 7 * k))) v = subst (λ (x : Row). Tried q g (row-of strs x) v) e h in
+    let t : Tried q g (row-of strs (row-numbers s (start + 7 * k))) v = subst (λ (x : Row). Tried q g (row-of strs x) v) e h in
     record { fit = t .fit; tried = t .tried; few = t .few }
 
 -- ---- a criterion, from its numbers
 
-pub trigger-bounds : (s : List ℕ) (at n : ℕ) (x : Criterion) → x ≡ criterionAt s at → Bounded s at n → (x .trigger .count ≤ 32) × (x .trigger .first + x .trigger .count ≤ n)
+pub trigger-bounds : (s : List ℕ) (at n : ℕ) (x : Criterion) → x ≡ criterion-numbers s at → Bounded s at n → (x .trigger .count ≤ 32) × (x .trigger .first + x .trigger .count ≤ n)
 trigger-bounds s at n x ex w = subst (λ (y : Criterion). (y .trigger .count ≤ 32) × (y .trigger .first + y .trigger .count ≤ n)) (sym ex) (w .short, w .in-table)
 
-module _ (strs : List Stored) (s : List ℕ) (at : ℕ) (x : Criterion) (ex : x ≡ criterionAt s at) where
+module _ (strs : List Stored) (s : List ℕ) (at : ℕ) (x : Criterion) (ex : x ≡ criterion-numbers s at) where
   module _ (fits : ℕ → Bool) (trials : ℕ → ℕ) (ms : List Member) (case : ℕ) (b : Bool) (eb : b ≡ part-fits (x .part) case) where
     pub evaluated-out : not b ≡ true → Considered (criterion-of fits ms case) (tried-of trials case) (criterion-from strs s at) (record { fits = false; trials = 0 })
     unfolding criterion-from criterion-with

@@ -8,7 +8,7 @@ use native.Mathlib.Omega.{arith}
 use mathlib.Core.List.{List}
 use lib.ListN.{length, take, drop, getD, length-map, length-take, length-drop, List·getD-eq-default}
 use Rattle.profile.specs.Image.{Stored}
-use Rattle.profile.specs.Places.{word, textAt}
+use Rattle.profile.specs.Places.{word, text-at}
 use Rattle.profile.specs.Decoded.{stored, stored-in, nothing, string-of}
 use Rattle.lookups.specs.Lookups.{the-part, part-of}
 use Rattle.profile.specs.Answers.{Table}
@@ -26,7 +26,7 @@ module _ (s : List ℕ) (n : ℕ) (table : List ℕ) (tb : Table s n table) wher
       sym (ap (λ (x : Stored). the-part (some x)) (List·getD-eq-default (stored-in s n table) nothing {n = i} (omega (arith, length-map (take n table) (stored s), taken s n table tb))))
 
   module _ (i o : ℕ) (h : i < n) (eo : o ≡ getD table i 0) where
-    whole-text : length (textAt s o) ≡ word s o
+    whole-text : length (text-at s o) ≡ word s o
     whole-text = simp (length-take, length-drop) (omega (arith, part-in s n table tb i o h eo))
 
     pub part-some : (len : ℕ) → (len ≡ word s o) × (len < 65536) → at-part (o + 2) len ≡ the-part (some (string-of (stored-in s n table) i))

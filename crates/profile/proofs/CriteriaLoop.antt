@@ -11,9 +11,9 @@ use lib.ListN.{length}
 use lib.Dec.{leb, eqb}
 use borrow.Author.Tests.{eq-eqb, ne-eqb, leb-true}
 use Rattle.profile.specs.Out.{Out, good, bad, _>>=_, _>>_}
-use Rattle.profile.specs.Places.{many, whole, u32, long, stands, upTo, named, namedOrAbsent, trigger, rest, criterion, readCriteria, ends}
+use Rattle.profile.specs.Places.{many, whole, u32, long, stands, limited, named, named-or-absent, trigger, rest, criterion, reading-criteria, ends}
 use Rattle.profile.specs.declared.Criterion.{Criterion}
-use Rattle.profile.specs.Answers.{fieldOut}
+use Rattle.profile.specs.Answers.{field-out}
 use Rattle.profile.specs.declared.Field.{Field}
 use Rattle.profile.specs.declared.Field.the-variants.{Is, Refused}
 use Rattle.profile.proofs.Laws.{is, refused, bad-good, must-inv, good-inj}
@@ -36,8 +36,8 @@ Stays p at q = (q .0 .priority ≡ p) × (q .1 ≡ at + 15)
 rest-stays : (s : List ℕ) (strs : List (List ℕ)) (rows p at : ℕ) (q : Criterion × ℕ) → rest s strs rows p at ≡ good q → Stays p at q
 unfolding rest
 rest-stays s strs rows p at =
-    always (Stays p at) (upTo s (at + 4) 2) _ λ _. always (Stays p at) (trigger s rows (at + 5)) _ λ _. always (Stays p at) (named s strs 0 (at + 10)) _
-    λ _. always (Stays p at) (upTo s (at + 12) 2) _ λ _. always (Stays p at) (namedOrAbsent s strs 5 (at + 13)) _
+    always (Stays p at) (limited s (at + 4) 2) _ λ _. always (Stays p at) (trigger s rows (at + 5)) _ λ _. always (Stays p at) (named s strs 0 (at + 10)) _
+    λ _. always (Stays p at) (limited s (at + 12) 2) _ λ _. always (Stays p at) (named-or-absent s strs 5 (at + 13)) _
     λ _ q e. (ap (λ (x : Criterion × ℕ). x .0 .priority) (sym (good-inj e)), ap (λ (x : Criterion × ℕ). x .1) (sym (good-inj e)))
 
 stands-snoc : (l : List Criterion) (c : Criterion) (p : ℕ) → stands (l ++ (c ∷ [])) p ≡ (stands l p || eqb (c .priority) p)
@@ -80,41 +80,41 @@ pub record CritHead (s : List ℕ) (strs : List (List ℕ)) (rows n start at j :
   pub count : j ≤ n
   pub place : at ≡ start + 15 * j
   pub read : List Criterion
-  pub so-far : readCriteria s strs rows n start ≡ many (next s strs rows) (n - j) at read
+  pub so-far : reading-criteria s strs rows n start ≡ many (next s strs rows) (n - j) at read
   pub known : (p : ℕ) → stands read p ≡ earlier s start j p
 
 module _ (s : List ℕ) (strs : List (List ℕ)) (rows n start : ℕ) where
   pub crit-first : CritHead s strs rows n start start 0
-  unfolding readCriteria earlier
+  unfolding reading-criteria earlier
   crit-first = record { count = omega arith; place = omega arith; read = []; so-far = rw sub-zero; known = λ p. refl }
 
   abbrev Read : Out ℕ → Type 0
-  Read o = o ≡ ends (readCriteria s strs rows n start)
+  Read o = o ≡ ends (reading-criteria s strs rows n start)
 
   module _ (at j : ℕ) (hd : CritHead s strs rows n start at j) where
     pub crit-end : n ≤ j → Read (good at)
     crit-end h = sym (ap ends (hd .so-far ∙ many-end (next s strs rows) n j at (hd .read) h))
 
-    module _ (l : j < n) (f : Field) (e : fieldOut f ≡ u32 s at) where
+    module _ (l : j < n) (f : Field) (e : field-out f ≡ u32 s at) where
       stop : (m q : ℕ) → next s strs rows (hd .read) at ≡ bad m q → Read (bad m q)
       stop m q h = sym (ap ends (hd .so-far ∙ many-bad (next s strs rows) n j at (hd .read) m q l h))
 
-      pub crit-cut : (m q : ℕ) → f ≡ Refused m q → Read (fieldOut f)
+      pub crit-cut : (m q : ℕ) → f ≡ Refused m q → Read (field-out f)
       unfolding criterion
-      crit-cut m q g = ap fieldOut g ∙ stop m q (rw (refused e g))
+      crit-cut m q g = ap field-out g ∙ stop m q (rw (refused e g))
 
       module _ (p : ℕ) (g : f ≡ Is p) where
         pub crit-repeat : earlier s start j p ≡ true → Read (bad 6 at)
         unfolding criterion
         crit-repeat t = stop 6 at (rw (is e g, hd .known p, t))
 
-        module _ (t : earlier s start j p ≡ false) (r : Field) (er : fieldOut r ≡ ends (rest s strs rows (long s at) at)) where
+        module _ (t : earlier s start j p ≡ false) (r : Field) (er : field-out r ≡ ends (rest s strs rows (long s at) at)) where
           after : next s strs rows (hd .read) at ≡ rest s strs rows (long s at) at
           unfolding criterion
           after = rw (is e g, hd .known p, t, u32-inv s at p (is e g) .1)
 
-          pub crit-bad : (m q : ℕ) → r ≡ Refused m q → Read (fieldOut r)
-          crit-bad m q h = ap fieldOut h ∙ stop m q (after ∙ ends-bad _ m q (refused er h))
+          pub crit-bad : (m q : ℕ) → r ≡ Refused m q → Read (field-out r)
+          crit-bad m q h = ap field-out h ∙ stop m q (after ∙ ends-bad _ m q (refused er h))
 
           pub crit-more : (v : ℕ) → r ≡ Is v → CritHead s strs rows n start (at + 15) (j + 1)
           unfolding earlier

@@ -6,7 +6,7 @@ use mathlib.Core.List.{List, []}
 use lib.ListN.{length, take, getD, length-map, List·getD-eq-default}
 use lib.Seq.{getD-take}
 use Rattle.profile.specs.Image.{Stored}
-use Rattle.profile.specs.Places.{word, textAt}
+use Rattle.profile.specs.Places.{word, text-at}
 use Rattle.profile.specs.Decoded.{stored, stored-in, nothing, string-of}
 use Rattle.profile.specs.Answers.{Table}
 use Rattle.profile.proofs.Uses.{getD-map-in, taken, inside-at}
@@ -21,7 +21,7 @@ module _ (s : List ℕ) (n : ℕ) (table : List ℕ) (tb : Table s n table) wher
     pub string-at : stored s o ≡ string-of (stored-in s n table) i
     string-at = ap (stored s) (eo ∙ sym (getD-take n table i 0 h)) ∙ sym (getD-map-in (stored s) (take n table) i 0 nothing (omega (arith, taken s n table tb)))
 
-    pub bytes-some : (r : List ℕ) → r ≡ textAt s o → r ≡ string-of (stored-in s n table) i .bytes
+    pub bytes-some : (r : List ℕ) → r ≡ text-at s o → r ≡ string-of (stored-in s n table) i .bytes
     bytes-some r e = e ∙ ap (λ (x : Stored). x .bytes) string-at
 
     -- it lies in the image

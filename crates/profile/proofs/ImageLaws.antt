@@ -7,10 +7,10 @@ use lib.ListN.{length, getD, drop}
 use lib.Dec.{leb, eqb}
 use borrow.Author.Tests.{eq-eqb, ne-eqb, le-leb, lt-leb, leb-true}
 use Rattle.profile.specs.Out.{Out, good, bad, _>>=_, _>>_, must}
-use Rattle.profile.specs.Places.{Profile, word, u8, counted, readStrings, readRows, readMembers, readCriteria, placed, has, texts, spaced, rowAt, memberAt, criterionAt, ends, judge}
+use Rattle.profile.specs.Places.{Profile, word, u8, counted, reading-strings, reading-rows, reading-members, reading-criteria, placed, has, texts, spaced, row-numbers, member-numbers, criterion-numbers, ends, judge}
 use Rattle.profile.specs.declared.Row.{Row}
 use Rattle.profile.specs.declared.Member.{Member}
-use Rattle.profile.specs.Answers.{Table, fieldOut, checkOut, Tabled, Counted, opening, fromCriteria, fromMembers, fromRows, judgedOut, refusalOf, Fit, Filled, LaidAs, Laid}
+use Rattle.profile.specs.Answers.{Table, field-out, check-out, Tabled, Counted, opening, criteria-on, members-on, rows-on, judged-out, refusal-of, Fit, Filled, LaidAs, Laid}
 use Rattle.profile.specs.Decoded.{offsets, past, layout, laid-criteria, laid-members, laid-rows}
 use Rattle.profile.specs.declared.Layout.{Layout}
 use Rattle.profile.specs.declared.Field.{Field}
@@ -20,21 +20,21 @@ use Rattle.profile.proofs.Laws.{is, refused, must-inv, bind-inv, counte
 use Rattle.profile.proofs.Many.{ends-bad}
 use Rattle.profile.proofs.Decode.{rows-are, members-are, criteria-are}
 
-pub refusal-is : (f : Field) (m q : ℕ) → f ≡ Refused m q → Judged.Refused m q ≡ refusalOf f
-refusal-is f m q g = sym (ap refusalOf g)
+pub refusal-is : (f : Field) (m q : ℕ) → f ≡ Refused m q → Judged.Refused m q ≡ refusal-of f
+refusal-is f m q g = sym (ap refusal-of g)
 
-refuse : (s table : List ℕ) (r : Judged) (f : Field) (m q : ℕ) → r ≡ refusalOf f → f ≡ Refused m q → judgedOut r s table ≡ bad m q
-refuse s table r f m q e g = ap (λ (x : Judged). judgedOut x s table) (e ∙ ap refusalOf g)
+refuse : (s table : List ℕ) (r : Judged) (f : Field) (m q : ℕ) → r ≡ refusal-of f → f ≡ Refused m q → judged-out r s table ≡ bad m q
+refuse s table r f m q e g = ap (λ (x : Judged). judged-out x s table) (e ∙ ap refusal-of g)
 
 module _ (s : List ℕ) where
   pub opening-long : 32768 < length s → bad 1 0 ≡ opening s
   unfolding opening
   opening-long h = rw (lt-leb (length s) 32768 h)
 
-  module _ (h : length s ≤ 32768) (f : Field) (e : fieldOut f ≡ u8 s 0) where
-    pub opening-cut : (m q : ℕ) → f ≡ Refused m q → fieldOut f ≡ opening s
+  module _ (h : length s ≤ 32768) (f : Field) (e : field-out f ≡ u8 s 0) where
+    pub opening-cut : (m q : ℕ) → f ≡ Refused m q → field-out f ≡ opening s
     unfolding opening
-    opening-cut m q g = ap fieldOut g ∙ rw (le-leb (length s) 32768 h, refused e g)
+    opening-cut m q g = ap field-out g ∙ rw (le-leb (length s) 32768 h, refused e g)
 
     module _ (v : ℕ) (g : f ≡ Is v) where
       pub opening-edition : (v ≡ 1 → ⊥) → bad 4 0 ≡ opening s
@@ -55,25 +55,25 @@ opening-inv s n e =
 
 module _ (s table : List ℕ) (strs : List (List ℕ)) (rows : List Row) (members : List Member) (n₂ at : ℕ) where
   abbrev Here : Out Profile → Type 0
-  Here o = o ≡ fromCriteria s strs rows members n₂ at
+  Here o = o ≡ criteria-on s strs rows members n₂ at
 
-  module _ (f : Field) (e : fieldOut f ≡ counted s at 64) where
-    pub crit-1 : (m q : ℕ) → f ≡ Refused m q → (r : Judged) → r ≡ refusalOf f → Here (judgedOut r s table)
-    unfolding fromCriteria
+  module _ (f : Field) (e : field-out f ≡ counted s at 64) where
+    pub crit-1 : (m q : ℕ) → f ≡ Refused m q → (r : Judged) → r ≡ refusal-of f → Here (judged-out r s table)
+    unfolding criteria-on
     crit-1 m q g r er = refuse s table r f m q er g ∙ rw (refused e g)
 
-    module _ (n : ℕ) (g : f ≡ Is n) (f₂ : Field) (e₂ : fieldOut f₂ ≡ ends (readCriteria s strs n₂ n (at + 2))) where
-      pub crit-2 : (m q : ℕ) → f₂ ≡ Refused m q → (r : Judged) → r ≡ refusalOf f₂ → Here (judgedOut r s table)
-      unfolding fromCriteria
-      crit-2 m q g₂ r er = refuse s table r f₂ m q er g₂ ∙ rw (is e g, ends-bad (readCriteria s strs n₂ n (at + 2)) m q (refused e₂ g₂))
+    module _ (n : ℕ) (g : f ≡ Is n) (f₂ : Field) (e₂ : field-out f₂ ≡ ends (reading-criteria s strs n₂ n (at + 2))) where
+      pub crit-2 : (m q : ℕ) → f₂ ≡ Refused m q → (r : Judged) → r ≡ refusal-of f₂ → Here (judged-out r s table)
+      unfolding criteria-on
+      crit-2 m q g₂ r er = refuse s table r f₂ m q er g₂ ∙ rw (is e g, ends-bad (reading-criteria s strs n₂ n (at + 2)) m q (refused e₂ g₂))
 
       module _ (end : ℕ) (g₂ : f₂ ≡ Is end) where
-        pub crit-3 : end ≡ length s → Here (good (record { strings = strs; rows = rows; members = members; criteria = spaced (criterionAt s) 15 (at + 2) n }))
-        unfolding fromCriteria
+        pub crit-3 : end ≡ length s → Here (good (record { strings = strs; rows = rows; members = members; criteria = spaced (criterion-numbers s) 15 (at + 2) n }))
+        unfolding criteria-on
         crit-3 h = rw (is e g, criteria-are s strs n₂ n (at + 2) end (is e₂ g₂) .0, eq-eqb end (length s) h)
 
         pub crit-4 : (end ≡ length s → ⊥) → Here (bad 3 end)
-        unfolding fromCriteria
+        unfolding criteria-on
         crit-4 h = rw (is e g, criteria-are s strs n₂ n (at + 2) end (is e₂ g₂) .0, ne-eqb end (length s) h)
 
 placed-same : (f g : ℕ → ℕ) (n r at : ℕ) → ((k : ℕ) → k < r + n → f k ≡ g k) → placed f n r at ≡ placed g n r at
@@ -85,53 +85,53 @@ placed-same f g (suc n) r at h =
 
 module _ (s table : List ℕ) (strs : List (List ℕ)) (rows : List Row) (n r₂ at : ℕ) where
   abbrev InMembers : Out Profile → Type 0
-  InMembers o = o ≡ fromMembers s strs rows n r₂ at
+  InMembers o = o ≡ members-on s strs rows n r₂ at
 
-  module _ (f : Field) (e : fieldOut f ≡ counted s at 16384) where
-    pub mem-1 : (m q : ℕ) → f ≡ Refused m q → (r : Judged) → r ≡ refusalOf f → InMembers (judgedOut r s table)
-    unfolding fromMembers
+  module _ (f : Field) (e : field-out f ≡ counted s at 16384) where
+    pub mem-1 : (m q : ℕ) → f ≡ Refused m q → (r : Judged) → r ≡ refusal-of f → InMembers (judged-out r s table)
+    unfolding members-on
     mem-1 m q g r er = refuse s table r f m q er g ∙ rw (refused e g)
 
     module _ (k : ℕ) (g : f ≡ Is k) (f₂ : Field) (counts : List ℕ) (e₂ : Counted f₂ s n k (at + 2) counts) where
-      pub mem-2 : (m q : ℕ) → f₂ ≡ Refused m q → (r : Judged) → r ≡ refusalOf f₂ → InMembers (judgedOut r s table)
-      unfolding fromMembers
+      pub mem-2 : (m q : ℕ) → f₂ ≡ Refused m q → (r : Judged) → r ≡ refusal-of f₂ → InMembers (judged-out r s table)
+      unfolding members-on
       mem-2 m q g₂ r er =
-          let b : readMembers s n k (at + 2) ≡ bad m q = subst (λ (x : Field). Counted x s n k (at + 2) counts) g₂ e₂ in
+          let b : reading-members s n k (at + 2) ≡ bad m q = subst (λ (x : Field). Counted x s n k (at + 2) counts) g₂ e₂ in
           refuse s table r f₂ m q er g₂ ∙ rw (is e g, b)
 
       module _ (next : ℕ) (g₂ : f₂ ≡ Is next) where
         read : Counted (Is next) s n k (at + 2) counts
         read = subst (λ (x : Field). Counted x s n k (at + 2) counts) g₂ e₂
 
-        module _ (h : Field) (e₃ : checkOut h ≡ placed (λ j. getD counts j 0) n 0 r₂) where
-          tallied : checkOut h ≡ placed (has (read .0)) n 0 r₂
+        module _ (h : Field) (e₃ : check-out h ≡ placed (λ j. getD counts j 0) n 0 r₂) where
+          tallied : check-out h ≡ placed (has (read .0)) n 0 r₂
           tallied = e₃ ∙ placed-same (λ j. getD counts j 0) (has (read .0)) n 0 r₂ (λ j l. read .2 j (omega arith))
 
-          pub mem-3 : (m q : ℕ) → h ≡ Refused m q → (r : Judged) → r ≡ refusalOf h → InMembers (judgedOut r s table)
-          unfolding fromMembers
-          mem-3 m q g₃ r er = refuse s table r h m q er g₃ ∙ rw (is e g, read .1, sym tallied ∙ ap checkOut g₃)
+          pub mem-3 : (m q : ℕ) → h ≡ Refused m q → (r : Judged) → r ≡ refusal-of h → InMembers (judged-out r s table)
+          unfolding members-on
+          mem-3 m q g₃ r er = refuse s table r h m q er g₃ ∙ rw (is e g, read .1, sym tallied ∙ ap check-out g₃)
 
-          pub mem-4 : (v : ℕ) → h ≡ Is v → (r : Judged) → judgedOut r s table ≡ fromCriteria s strs rows (spaced (memberAt s) 4 (at + 2) k) n next → InMembers (judgedOut r s table)
-          unfolding fromMembers
-          mem-4 v g₃ r er = er ∙ rw (is e g, read .1, sym tallied ∙ ap checkOut g₃, members-are s n k (at + 2) (read .0) next (read .1) .0)
+          pub mem-4 : (v : ℕ) → h ≡ Is v → (r : Judged) → judged-out r s table ≡ criteria-on s strs rows (spaced (member-numbers s) 4 (at + 2) k) n next → InMembers (judged-out r s table)
+          unfolding members-on
+          mem-4 v g₃ r er = er ∙ rw (is e g, read .1, sym tallied ∙ ap check-out g₃, members-are s n k (at + 2) (read .0) next (read .1) .0)
 
 module _ (s table : List ℕ) (strs : List (List ℕ)) (at : ℕ) where
   abbrev InRows : Out Profile → Type 0
-  InRows o = o ≡ fromRows s strs at
+  InRows o = o ≡ rows-on s strs at
 
-  module _ (f : Field) (e : fieldOut f ≡ counted s at 2048) where
-    pub rows-f : (m q : ℕ) → f ≡ Refused m q → (r : Judged) → r ≡ refusalOf f → InRows (judgedOut r s table)
-    unfolding fromRows
+  module _ (f : Field) (e : field-out f ≡ counted s at 2048) where
+    pub rows-f : (m q : ℕ) → f ≡ Refused m q → (r : Judged) → r ≡ refusal-of f → InRows (judged-out r s table)
+    unfolding rows-on
     rows-f m q g r er = refuse s table r f m q er g ∙ rw (refused e g)
 
-    module _ (n : ℕ) (g : f ≡ Is n) (f₂ : Field) (e₂ : fieldOut f₂ ≡ ends (readRows s strs n (at + 2))) where
-      pub rows-g : (m q : ℕ) → f₂ ≡ Refused m q → (r : Judged) → r ≡ refusalOf f₂ → InRows (judgedOut r s table)
-      unfolding fromRows
-      rows-g m q g₂ r er = refuse s table r f₂ m q er g₂ ∙ rw (is e g, ends-bad (readRows s strs n (at + 2)) m q (refused e₂ g₂))
+    module _ (n : ℕ) (g : f ≡ Is n) (f₂ : Field) (e₂ : field-out f₂ ≡ ends (reading-rows s strs n (at + 2))) where
+      pub rows-g : (m q : ℕ) → f₂ ≡ Refused m q → (r : Judged) → r ≡ refusal-of f₂ → InRows (judged-out r s table)
+      unfolding rows-on
+      rows-g m q g₂ r er = refuse s table r f₂ m q er g₂ ∙ rw (is e g, ends-bad (reading-rows s strs n (at + 2)) m q (refused e₂ g₂))
 
       module _ (next : ℕ) (g₂ : f₂ ≡ Is next) where
-        pub rows-h : (r : Judged) → judgedOut r s table ≡ fromMembers s strs (spaced (rowAt s) 7 (at + 2) n) n (at + 2) next → InRows (judgedOut r s table)
-        unfolding fromRows
+        pub rows-h : (r : Judged) → judged-out r s table ≡ members-on s strs (spaced (row-numbers s) 7 (at + 2) n) n (at + 2) next → InRows (judged-out r s table)
+        unfolding rows-on
         rows-h r er = er ∙ rw (is e g, rows-are s strs n (at + 2) next (is e₂ g₂) .0)
 
 then-assoc : {A B : Type 0} (o : Out Unit) (r : Out A) (k : A → Out B) → ((o >> r) >>= k) ≡ (o >> (r >>= k))
@@ -147,32 +147,32 @@ inner (good v) t r k = then-assoc (t v) r k
 inner (bad n p) t r k = refl
 
 abbrev pub strings-on : List ℕ → ℕ → Out Profile
-strings-on s n = readStrings s n 3 >>= λ q. fromRows s (q .0) (q .1)
+strings-on s n = reading-strings s n 3 >>= λ q. rows-on s (q .0) (q .1)
 
 pub judge-opens : (s : List ℕ) → judge s ≡ (opening s >>= strings-on s)
-unfolding judge opening fromRows fromMembers fromCriteria
+unfolding judge opening rows-on members-on criteria-on
 judge-opens s = sym (then-assoc (must (leb (length s) 32768) 1 0) (u8 s 0 >>= λ v. must (eqb v 1) 4 0 >> counted s 1 1024) (strings-on s)
     ∙ ap (λ (r : Out Profile). must (leb (length s) 32768) 1 0 >> r)
     (bind-assoc (u8 s 0) (λ v. must (eqb v 1) 4 0 >> counted s 1 1024) (strings-on s) ∙ inner (u8 s 0) (λ v. must (eqb v 1) 4 0) (counted s 1 1024) (strings-on s)))
 
-module _ (s : List ℕ) (f : Field) (e : fieldOut f ≡ opening s) where
-  pub image-f : (table : List ℕ) (m q : ℕ) → f ≡ Refused m q → (r : Judged) → r ≡ refusalOf f → judgedOut r s table ≡ judge s
+module _ (s : List ℕ) (f : Field) (e : field-out f ≡ opening s) where
+  pub image-f : (table : List ℕ) (m q : ℕ) → f ≡ Refused m q → (r : Judged) → r ≡ refusal-of f → judged-out r s table ≡ judge s
   image-f table m q g r er = refuse s table r f m q er g ∙ sym (judge-opens s ∙ rw (refused e g))
 
   module _ (n : ℕ) (g : f ≡ Is n) (f₂ : Field) (table : List ℕ) (e₂ : Tabled f₂ s n table) where
     whole-is : judge s ≡ strings-on s n
     whole-is = judge-opens s ∙ rw (is e g)
 
-    pub image-g : (m q : ℕ) → f₂ ≡ Refused m q → (r : Judged) → r ≡ refusalOf f₂ → judgedOut r s table ≡ judge s
+    pub image-g : (m q : ℕ) → f₂ ≡ Refused m q → (r : Judged) → r ≡ refusal-of f₂ → judged-out r s table ≡ judge s
     image-g m q g₂ r er =
-        let b : readStrings s n 3 ≡ bad m q = subst (λ (x : Field). Tabled x s n table) g₂ e₂ in
+        let b : reading-strings s n 3 ≡ bad m q = subst (λ (x : Field). Tabled x s n table) g₂ e₂ in
         refuse s table r f₂ m q er g₂ ∙ sym (whole-is ∙ rw b)
 
     module _ (at : ℕ) (g₂ : f₂ ≡ Is at) where
       image-table : Tabled (Is at) s n table
       image-table = subst (λ (x : Field). Tabled x s n table) g₂ e₂
 
-      pub image-h : (r : Judged) → judgedOut r s table ≡ fromRows s (texts s n table) at → judgedOut r s table ≡ judge s
+      pub image-h : (r : Judged) → judged-out r s table ≡ rows-on s (texts s n table) at → judged-out r s table ≡ judge s
       image-h r er = er ∙ sym (whole-is ∙ rw (image-table .0))
 
 pub counted-next : (s : List ℕ) (n k at : ℕ) (counts : List ℕ) (f : Field) (next : ℕ) → Counted f s n k at counts → f ≡ Is next → next ≡ at + 4 * k
@@ -183,18 +183,18 @@ tabled-is s n table f at h e g =
     let t : Tabled (Is at) s n table = subst (λ (x : Field). Tabled x s n table) g e in
     (t .2, record { count = h; long = t .3; inside = t .1 })
 
-pub fit-refused : (s table : List ℕ) (r : Judged) (f : Field) (m q : ℕ) → r ≡ refusalOf f → f ≡ Refused m q → Fit r s table
-fit-refused s table r f m q e g = subst (λ (x : Judged). Fit x s table) (sym (e ∙ ap refusalOf g)) tt
+pub fit-refused : (s table : List ℕ) (r : Judged) (f : Field) (m q : ℕ) → r ≡ refusal-of f → f ≡ Refused m q → Fit r s table
+fit-refused s table r f m q e g = subst (λ (x : Judged). Fit x s table) (sym (e ∙ ap refusal-of g)) tt
 
-pub fit-end : (s : List ℕ) (strs : List (List ℕ)) (n₂ n at : ℕ) (f : Field) (end : ℕ) → fieldOut f ≡ ends (readCriteria s strs n₂ n at) → f ≡ Is end → end ≡ length s → at + 15 * n ≡ length s
+pub fit-end : (s : List ℕ) (strs : List (List ℕ)) (n₂ n at : ℕ) (f : Field) (end : ℕ) → field-out f ≡ ends (reading-criteria s strs n₂ n at) → f ≡ Is end → end ≡ length s → at + 15 * n ≡ length s
 fit-end s strs n₂ n at f end e g h = sym (criteria-are s strs n₂ n at end (is e g) .1) ∙ h
 
 -- ---- where the sections lie
 
-pub laid-refused : (z : Layout) (r : Judged) (f : Field) (m q : ℕ) → r ≡ refusalOf f → f ≡ Refused m q → LaidAs r z
-laid-refused z r f m q e g = subst (λ (x : Judged). LaidAs x z) (sym (e ∙ ap refusalOf g)) (record { says = tt })
+pub laid-refused : (z : Layout) (r : Judged) (f : Field) (m q : ℕ) → r ≡ refusal-of f → f ≡ Refused m q → LaidAs r z
+laid-refused z r f m q e g = subst (λ (x : Judged). LaidAs x z) (sym (e ∙ ap refusal-of g)) (record { says = tt })
 
-pub laid-end : (s : List ℕ) (y : Layout) (at : ℕ) (f : Field) (n : ℕ) → fieldOut f ≡ counted s at 64 → f ≡ Is n
+pub laid-end : (s : List ℕ) (y : Layout) (at : ℕ) (f : Field) (n : ℕ) → field-out f ≡ counted s at 64 → f ≡ Is n
     → LaidAs (Judged.Accepted (record { strings = y .strings; rows = y .rows; «row_count» = y .«row_count»; members = y .members; «member_count» = y .«member_count»; criteria = at + 2; «criterion_count» = n })) (laid-criteria s y at)
 laid-end s y at f n e g = record {
   says =
@@ -213,8 +213,8 @@ pub laid-on-rows : (s : List ℕ) (r : Judged) (strings at n next : ℕ) → Lai
 laid-on-rows s r strings at n next h e f =
     subst (λ (k : ℕ). LaidAs r (laid-members s strings (at + 2) k (at + 2 + 7 * k))) e (subst (λ (k : ℕ). LaidAs r (laid-members s strings (at + 2) n k)) f h)
 
-pub laid-whole-refused : (s before table : List ℕ) (r : Judged) (f : Field) (m q : ℕ) → r ≡ refusalOf f → f ≡ Refused m q → Laid r s before table
-laid-whole-refused s before table r f m q e g = subst (λ (x : Judged). Laid x s before table) (sym (e ∙ ap refusalOf g)) tt
+pub laid-whole-refused : (s before table : List ℕ) (r : Judged) (f : Field) (m q : ℕ) → r ≡ refusal-of f → f ≡ Refused m q → Laid r s before table
+laid-whole-refused s before table r f m q e g = subst (λ (x : Judged). Laid x s before table) (sym (e ∙ ap refusal-of g)) tt
 
 pub laid-whole : (s before table : List ℕ) (r : Judged) (n at : ℕ) → LaidAs r (laid-rows s n at) → n ≡ word s 1 → (table ≡ offsets s n 3 ++ drop n before) × (at ≡ past s n 3) → Laid r s before table
 unfolding layout

@@ -7,7 +7,7 @@ use Rattle.profile.specs.Image.{accepted, refused}
 use Rattle.profile.specs.Judging as judging
 use Rattle.profile.specs.Places as places
 use Rattle.profile.specs.Decoded.{layout, profile-in, judged-by}
-use Rattle.profile.specs.Answers.{judgedOut, Laid}
+use Rattle.profile.specs.Answers.{judged-out, Laid}
 use Rattle.profile.specs.Kept.{kept, judgement, string-table, Judges}
 use Rattle.profile.specs.declared.Layout.{Layout}
 use Rattle.profile.specs.declared.Judged.{Judged}
@@ -16,12 +16,12 @@ use Rattle.profile.specs.declared.Judgement.{Judgement}
 use Rattle.profile.proofs.Same.{judge-same}
 use Rattle.profile.proofs.Placed.{placed-low}
 
-module _ (s table : List ℕ) (r : Judged) (e : judgedOut r s table ≡ places.judge s) where
+module _ (s table : List ℕ) (r : Judged) (e : judged-out r s table ≡ places.judge s) where
   is-refused : (m p : ℕ) → r ≡ Refused m p → judging.judge s ≡ refused m p
-  is-refused m p g = judge-same s ∙ ap (judged-by s) (sym e ∙ ap (λ (x : Judged). judgedOut x s table) g)
+  is-refused m p g = judge-same s ∙ ap (judged-by s) (sym e ∙ ap (λ (x : Judged). judged-out x s table) g)
 
   is-accepted : (y : Layout) → r ≡ Accepted y → judging.judge s ≡ accepted (profile-in s)
-  is-accepted y g = judge-same s ∙ ap (judged-by s) (sym e ∙ ap (λ (x : Judged). judgedOut x s table) g)
+  is-accepted y g = judge-same s ∙ ap (judged-by s) (sym e ∙ ap (λ (x : Judged). judged-out x s table) g)
 
   pub place-low : (m p : ℕ) → r ≡ Refused m p → p ≤ 32768
   place-low m p g = placed-low s m p (is-refused m p g) .0

@@ -8,17 +8,17 @@ use lib.ListN.{length}
 use lib.Dec.{leb}
 use borrow.Author.Tests.{le-leb, lt-leb, leb-true}
 use Rattle.profile.specs.Out.{Out, good, bad, _>>=_, _>>_, must}
-use Rattle.profile.specs.Places.{whole, u8, u16, byte, word, upTo, counted, sized}
-use Rattle.profile.specs.Answers.{fieldOut}
+use Rattle.profile.specs.Places.{whole, u8, u16, byte, word, limited, counted, sized}
+use Rattle.profile.specs.Answers.{field-out}
 use Rattle.profile.specs.declared.Field.{Field}
 use Rattle.profile.specs.declared.Field.the-variants.{Is, Refused}
 
 -- what a callee's answer says of the reader that it ensures
-pub is : {r : Field} {o : Out ℕ} {v : ℕ} → fieldOut r ≡ o → r ≡ Is v → o ≡ good v
-is e g = sym e ∙ ap fieldOut g
+pub is : {r : Field} {o : Out ℕ} {v : ℕ} → field-out r ≡ o → r ≡ Is v → o ≡ good v
+is e g = sym e ∙ ap field-out g
 
-pub refused : {r : Field} {o : Out ℕ} {n p : ℕ} → fieldOut r ≡ o → r ≡ Refused n p → o ≡ bad n p
-refused e g = sym e ∙ ap fieldOut g
+pub refused : {r : Field} {o : Out ℕ} {n p : ℕ} → field-out r ≡ o → r ≡ Refused n p → o ≡ bad n p
+refused e g = sym e ∙ ap field-out g
 
 pub whole-yes : (s : List ℕ) (at k : ℕ) → at + k ≤ length s → whole s at k ≡ good tt
 unfolding whole
@@ -45,17 +45,17 @@ unfolding u16
 u16-no s at h = rw (whole-no s at 2 h)
 
 module _ (s : List ℕ) (at most : ℕ) where
-  pub upTo-yes : (v : ℕ) → u8 s at ≡ good v → v ≤ most → good v ≡ upTo s at most
-  unfolding upTo
-  upTo-yes v e h = rw (e, le-leb v most h)
+  pub limited-yes : (v : ℕ) → u8 s at ≡ good v → v ≤ most → good v ≡ limited s at most
+  unfolding limited
+  limited-yes v e h = rw (e, le-leb v most h)
 
-  pub upTo-over : (v : ℕ) → u8 s at ≡ good v → most < v → bad 4 at ≡ upTo s at most
-  unfolding upTo
-  upTo-over v e h = rw (e, lt-leb v most h)
+  pub limited-over : (v : ℕ) → u8 s at ≡ good v → most < v → bad 4 at ≡ limited s at most
+  unfolding limited
+  limited-over v e h = rw (e, lt-leb v most h)
 
-  pub upTo-bad : (n p : ℕ) → u8 s at ≡ bad n p → bad n p ≡ upTo s at most
-  unfolding upTo
-  upTo-bad n p e = rw e
+  pub limited-bad : (n p : ℕ) → u8 s at ≡ bad n p → bad n p ≡ limited s at most
+  unfolding limited
+  limited-bad n p e = rw e
 
   pub counted-yes : (v : ℕ) → u16 s at ≡ good v → v ≤ most → good v ≡ counted s at most
   unfolding counted
@@ -113,4 +113,4 @@ module _ (s : List ℕ) (at : ℕ) where
   unfolding sized
   sized-bad n p e = rw e
 
-pub ruleset readers = (is, refused, u8-yes, u8-no, u16-yes, u16-no, upTo-yes, upTo-over, upTo-bad, counted-yes, counted-over, counted-bad, sized-yes, sized-cut, sized-bad)
+pub ruleset readers = (is, refused, u8-yes, u8-no, u16-yes, u16-no, limited-yes, limited-over, limited-bad, counted-yes, counted-over, counted-bad, sized-yes, sized-cut, sized-bad)

@@ -8,7 +8,7 @@ use borrow.Author.Tests.{eq-eqb, ne-eqb, lt-ltb, le-ltb}
 use Rattle.profile.specs.Out.{Out, good, bad, _>>=_}
 use Rattle.profile.specs.Places.{u16, member, comes}
 use Rattle.profile.specs.declared.Member.{Member}
-use Rattle.profile.specs.Answers.{fieldOut}
+use Rattle.profile.specs.Answers.{field-out}
 use Rattle.profile.specs.declared.Field.{Field}
 use Rattle.profile.specs.declared.Field.the-variants.{Is, Refused}
 use Rattle.profile.proofs.Laws.{is, refused}
@@ -30,7 +30,7 @@ module _ (s : List ℕ) (rows k row group at : ℕ) where
   abbrev Read : Out (Member × ℕ) → Type 0
   Read o = o ≡ member s rows (comes k row group) at
 
-  module _ (f : Field) (e : fieldOut f ≡ u16 s at) where
+  module _ (f : Field) (e : field-out f ≡ u16 s at) where
     pub member-1 : (m q : ℕ) → f ≡ Refused m q → Read (bad m q)
     unfolding member
     member-1 m q h = rw (refused e h)
@@ -40,7 +40,7 @@ module _ (s : List ℕ) (rows k row group at : ℕ) where
       unfolding member
       member-out l = rw (is e h, le-ltb r rows l)
 
-      module _ (l : r < rows) (f₂ : Field) (e₂ : fieldOut f₂ ≡ u16 s (at + 2)) where
+      module _ (l : r < rows) (f₂ : Field) (e₂ : field-out f₂ ≡ u16 s (at + 2)) where
         pub member-2 : (m q : ℕ) → f₂ ≡ Refused m q → Read (bad m q)
         unfolding member
         member-2 m q h₂ = rw (is e h, lt-ltb r rows l, refused e₂ h₂)

@@ -11,9 +11,9 @@ use lib.Seq.{getD-set-same, getD-set-other}
 use lib.Dec.{ltb, eqb}
 use borrow.Author.Tests.{eq-eqb, ne-eqb, le-leb, lt-leb, ltb-true}
 use Rattle.profile.specs.Out.{Out, good, bad, _>>=_}
-use Rattle.profile.specs.Places.{many, u16, member, readMembers, follows, comes, after, has, placed}
+use Rattle.profile.specs.Places.{many, u16, member, reading-members, follows, comes, after, has, placed}
 use Rattle.profile.specs.declared.Member.{Member}
-use Rattle.profile.specs.Answers.{pairOut, Counted}
+use Rattle.profile.specs.Answers.{pair-out, Counted}
 use Rattle.profile.specs.declared.Field.the-variants.{Is, Refused}
 use Rattle.profile.specs.declared.Pair.{Pair}
 use Rattle.profile.specs.declared.Pair.the-variants.{Both}
@@ -65,14 +65,14 @@ pub record MemberHead (s : List ℕ) (rows n start : ℕ) (counts : List ℕ) (a
   pub place : at ≡ start + 4 * k
   pub long : length counts ≡ 2048
   pub read : List Member
-  pub so-far : readMembers s rows n start ≡ many (next s rows) (n - k) at read
+  pub so-far : reading-members s rows n start ≡ many (next s rows) (n - k) at read
   pub last : (r g : ℕ) → follows read r g ≡ comes k row group r g
   pub tally : (r : ℕ) → r < 2048 → getD counts r 0 ≡ has read r
   pub few : (r : ℕ) → r < 2048 → has read r ≤ k
 
 module _ (s : List ℕ) (rows n start : ℕ) where
   pub members-first : (counts : List ℕ) → counts ≡ replicate 2048 0 → MemberHead s rows n start counts start 0 0 0
-  unfolding readMembers has
+  unfolding reading-members has
   members-first counts e = record {
     count = omega arith;
     place = omega arith;
@@ -88,15 +88,15 @@ module _ (s : List ℕ) (rows n start : ℕ) where
     same : (o : Out (Member × ℕ)) → o ≡ member s rows (comes k row group) at → next s rows (hd .read) at ≡ o
     same o e = ap (λ (t : ℕ → ℕ → Bool). member s rows t at) (fun-ext (λ r. fun-ext (λ g. hd .last r g))) ∙ sym e
 
-    module _ (p : Pair) (e : pairOut at p ≡ member s rows (comes k row group) at) where
+    module _ (p : Pair) (e : pair-out at p ≡ member s rows (comes k row group) at) where
       pub in-table : (r g : ℕ) → p ≡ Both r g → r < rows
-      in-table r g h = member-row s rows at (comes k row group) _ _ (sym e ∙ ap (pairOut at) h)
+      in-table r g h = member-row s rows at (comes k row group) _ _ (sym e ∙ ap (pair-out at) h)
 
       pub room : (r g : ℕ) → p ≡ Both r g → rows ≤ 2048 → getD counts r 0 ≤ k
       room r g h l = let i = in-table r g h in omega (arith, hd .tally r (omega arith), hd .few r (omega arith))
 
-      pub members-bad : (m q : ℕ) → k < n → p ≡ Pair.Refused m q → readMembers s rows n start ≡ bad m q
-      members-bad m q l h = hd .so-far ∙ many-bad (next s rows) n k at (hd .read) m q l (same _ e ∙ ap (pairOut at) h)
+      pub members-bad : (m q : ℕ) → k < n → p ≡ Pair.Refused m q → reading-members s rows n start ≡ bad m q
+      members-bad m q l h = hd .so-far ∙ many-bad (next s rows) n k at (hd .read) m q l (same _ e ∙ ap (pair-out at) h)
 
       pub members-more : (r g : ℕ) → k < n → rows ≤ 2048 → p ≡ Both r g → MemberHead s rows n start (set counts r (getD counts r 0 + 1)) (at + 4) r g (k + 1)
       members-more r g l small h =
@@ -107,7 +107,7 @@ module _ (s : List ℕ) (rows n start : ℕ) where
             place = omega (arith, hd .place);
             long = length-set counts r _ ∙ hd .long;
             read = hd .read ++ (m ∷ []);
-            so-far = hd .so-far ∙ many-step (next s rows) n k at (hd .read) m (at + 4) l (same _ e ∙ ap (pairOut at) h);
+            so-far = hd .so-far ∙ many-step (next s rows) n k at (hd .read) m (at + 4) l (same _ e ∙ ap (pair-out at) h);
             last = λ a b. follows-snoc (hd .read) m a b ∙ rw (ne-eqb (k + 1) 0 (omega arith));
             tally = λ j lj. tally-snoc counts (hd .read) m 2048 (hd .long) (omega arith) (hd .tally) j lj;
             few = λ j lj. omega (arith, has-snoc (hd .read) m j, one-more (eqb r j), hd .few j lj);

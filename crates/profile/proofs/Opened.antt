@@ -11,7 +11,7 @@ use Rattle.profile.specs.Image.{Judged, accepted, refused}
 use Rattle.profile.specs.Judging.{judge}
 use Rattle.profile.specs.Out.{good}
 use Rattle.profile.specs.Places as places
-use Rattle.profile.specs.Places.{word, spaced, readStrings}
+use Rattle.profile.specs.Places.{word, spaced, reading-strings}
 use Rattle.profile.specs.Decoded.{offsets, layout, strings, stored, stored-in, profile-in}
 use Rattle.profile.specs.Answers.{Table, opening}
 use Rattle.profile.specs.Kept.{kept, judgement, string-table, Judges}
@@ -102,19 +102,19 @@ offsets-length s zero at = refl
 offsets-length s (suc n) at = ap suc (offsets-length s n (at + 2 + word s at))
 
 -- how many strings there are, and that they were read
-strings-read : (s : List ℕ) (p : places.Profile) → places.judge s ≡ good p → (word s 1 ≤ 1024) × (q : List (List ℕ) × ℕ) × (readStrings s (word s 1) 3 ≡ good q)
+strings-read : (s : List ℕ) (p : places.Profile) → places.judge s ≡ good p → (word s 1 ≤ 1024) × (q : List (List ℕ) × ℕ) × (reading-strings s (word s 1) 3 ≡ good q)
 strings-read s p e =
     let (n, o, r) = bind-inv (opening s) (strings-on s) p (sym (judge-opens s) ∙ e) in
-    let (q, f, g) = bind-inv (readStrings s n 3) _ p r in
+    let (q, f, g) = bind-inv (reading-strings s n 3) _ p r in
     let z : n ≡ word s 1 = opening-count s n o in
-    (subst (λ (m : ℕ). m ≤ 1024) z (opening-inv s n o .1), q, subst (λ (m : ℕ). readStrings s m 3 ≡ good q) z f)
+    (subst (λ (m : ℕ). m ≤ 1024) z (opening-inv s n o .1), q, subst (λ (m : ℕ). reading-strings s m 3 ≡ good q) z f)
 
 module _ (s : List ℕ) (j : Judgement) (h : Judges s j) (z : j .refusal ≡ 0) where
   many-strings : j .layout .strings ≡ word s 1
   unfolding layout
   many-strings = ap (λ (y : Layout). y .strings) (opened s j h z .layout-is)
 
-  read-strings : (word s 1 ≤ 1024) × (q : List (List ℕ) × ℕ) × (readStrings s (word s 1) 3 ≡ good q)
+  read-strings : (word s 1 ≤ 1024) × (q : List (List ℕ) × ℕ) × (reading-strings s (word s 1) 3 ≡ good q)
   read-strings = let (p, e, k) = accepted-good s (profile-in s) (opened s j h z .accepts) in strings-read s p e
 
   table-at : (k : ℕ) → k < word s 1 → getD (j .table) k 0 ≡ getD (offsets s (word s 1) 3) k 0
@@ -124,7 +124,7 @@ module _ (s : List ℕ) (j : Judgement) (h : Judges s j) (z : j .refusal ≡ 0) 
 
   -- the table names the strings, each of which lies in the image
   pub table-of : Table s (j .layout .strings) (j .table)
-  unfolding readStrings
+  unfolding reading-strings
   table-of =
       let (few, q, e) = read-strings in
       record {

@@ -5,9 +5,9 @@ use native.Mathlib.Nat.{sub-zero}
 use mathlib.Core.Path.{_≡_, sym, ap, _∙_}
 use mathlib.Core.List.{List, [], _∷_, _++_}
 use Rattle.profile.specs.Out.{good}
-use Rattle.profile.specs.Places.{many, row, readRows, ends, upTo, rowFirst, rowSecond}
+use Rattle.profile.specs.Places.{many, row, reading-rows, ends, limited, first-of-row, second-of-row}
 use Rattle.profile.specs.declared.Row.{Row}
-use Rattle.profile.specs.Answers.{fieldOut}
+use Rattle.profile.specs.Answers.{field-out}
 use Rattle.profile.specs.declared.Field.{Field}
 use Rattle.profile.specs.declared.Field.the-variants.{Is, Refused}
 use Rattle.profile.proofs.Laws.{is, refused, good-inj}
@@ -17,28 +17,28 @@ pub record RowHead (s : List ℕ) (strs : List (List ℕ)) (n start at k : ℕ) 
   pub count : k ≤ n
   pub place : at ≡ start + 7 * k
   pub read : List Row
-  pub so-far : readRows s strs n start ≡ many (λ _. row s strs) (n - k) at read
+  pub so-far : reading-rows s strs n start ≡ many (λ _. row s strs) (n - k) at read
 
 module _ (s : List ℕ) (strs : List (List ℕ)) where
   pub row-next : (at v : ℕ) → ends (row s strs at) ≡ good v → v ≡ at + 7
   unfolding row
-  row-next at v e = ends-bind (upTo s at 1) _ v (at + 7) (λ _. ends-bind (upTo s (at + 1) 4) _ v (at + 7) (λ k. ends-bind (rowFirst s strs k (at + 2)) _ v (at + 7) (λ _. ends-bind (rowSecond s strs k (at + 4)) _ v (at + 7) (λ _. ends-bind (upTo s (at + 6) 6) _ v (at + 7) (λ _ q. good-inj (sym q)))))) e
+  row-next at v e = ends-bind (limited s at 1) _ v (at + 7) (λ _. ends-bind (limited s (at + 1) 4) _ v (at + 7) (λ k. ends-bind (first-of-row s strs k (at + 2)) _ v (at + 7) (λ _. ends-bind (second-of-row s strs k (at + 4)) _ v (at + 7) (λ _. ends-bind (limited s (at + 6) 6) _ v (at + 7) (λ _ q. good-inj (sym q)))))) e
 
   module _ (n start : ℕ) where
     pub rows-first : RowHead s strs n start start 0
-    unfolding readRows
+    unfolding reading-rows
     rows-first = record { count = omega arith; place = omega arith; read = []; so-far = rw sub-zero }
 
     module _ (at k : ℕ) (hd : RowHead s strs n start at k) where
-      pub rows-more : (r : Field) (v : ℕ) → k < n → fieldOut r ≡ ends (row s strs at) → r ≡ Is v → RowHead s strs n start v (k + 1)
+      pub rows-more : (r : Field) (v : ℕ) → k < n → field-out r ≡ ends (row s strs at) → r ≡ Is v → RowHead s strs n start v (k + 1)
       rows-more r v h e g =
           let q = is e g in
           let (a, o) = ends-inv (row s strs at) v q in
           let z = row-next at v q in
           record { count = omega arith; place = omega (arith, hd .place); read = hd .read ++ (a ∷ []); so-far = hd .so-far ∙ many-step (λ _. row s strs) n k at (hd .read) a v h o }
 
-      pub rows-bad : (r : Field) (m q : ℕ) → k < n → fieldOut r ≡ ends (row s strs at) → r ≡ Refused m q → fieldOut r ≡ ends (readRows s strs n start)
-      rows-bad r m q h e g = ap fieldOut g ∙ sym (ap ends (hd .so-far ∙ many-bad (λ _. row s strs) n k at (hd .read) m q h (ends-bad (row s strs at) m q (refused e g))))
+      pub rows-bad : (r : Field) (m q : ℕ) → k < n → field-out r ≡ ends (row s strs at) → r ≡ Refused m q → field-out r ≡ ends (reading-rows s strs n start)
+      rows-bad r m q h e g = ap field-out g ∙ sym (ap ends (hd .so-far ∙ many-bad (λ _. row s strs) n k at (hd .read) m q h (ends-bad (row s strs at) m q (refused e g))))
 
-      pub rows-end : n ≤ k → good at ≡ ends (readRows s strs n start)
+      pub rows-end : n ≤ k → good at ≡ ends (reading-rows s strs n start)
       rows-end h = sym (ap ends (hd .so-far ∙ many-end (λ _. row s strs) n k at (hd .read) h))

@@ -14,7 +14,7 @@ use Rattle.profile.specs.Judging as judging
 use Rattle.profile.specs.Judging.{verdict}
 use Rattle.profile.specs.Out.{Out, good, bad}
 use Rattle.profile.specs.Places as places
-use Rattle.profile.specs.Places.{word, spaced, rowAt, memberAt, criterionAt}
+use Rattle.profile.specs.Places.{word, spaced, row-numbers, member-numbers, criterion-numbers}
 use Rattle.profile.specs.Decoded.{layout, strings, past, profile-in, judged-by}
 use Rattle.profile.proofs.Laws.{good-inj, bad-good}
 use Rattle.profile.proofs.SameFields.{Same, same-got, same-fault, then-is, then-must, then-done, then-tested, texts-of, u8-same, counted-same}
@@ -24,9 +24,9 @@ use Rattle.profile.proofs.SameSections.{strings-same, rows-same, member
 pub record Laid (s : List ℕ) (p : places.Profile) : Type 0 where
   pub size : length s ≤ 32768
   pub strings : p .strings ≡ texts-of (strings s)
-  pub rows : p .rows ≡ spaced (rowAt s) 7 (layout s .rows) (layout s .«row_count»)
-  pub members : p .members ≡ spaced (memberAt s) 4 (layout s .members) (layout s .«member_count»)
-  pub criteria : p .criteria ≡ spaced (criterionAt s) 15 (layout s .criteria) (layout s .«criterion_count»)
+  pub rows : p .rows ≡ spaced (row-numbers s) 7 (layout s .rows) (layout s .«row_count»)
+  pub members : p .members ≡ spaced (member-numbers s) 4 (layout s .members) (layout s .«member_count»)
+  pub criteria : p .criteria ≡ spaced (criterion-numbers s) 15 (layout s .criteria) (layout s .«criterion_count»)
   pub end : layout s .criteria + 15 * layout s .«criterion_count» ≡ length s
 
 module _ (s : List ℕ) where

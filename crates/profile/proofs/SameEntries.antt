@@ -14,12 +14,12 @@ use Rattle.profile.specs.Judging as judging
 use Rattle.profile.specs.Judging.{as-uri, as-method, as-pattern, as-server, as-information, test-of}
 use Rattle.profile.specs.Out.{Out, good, must, _>>=_, _>>_}
 use Rattle.profile.specs.Places as places
-use Rattle.profile.specs.Places.{byte, word, long, whole, u16, upTo, counted, exactly, absent, rowFirst, rowSecond, rowStart, rowCount, trigger, rest, rowAt, memberAt, criterionAt}
+use Rattle.profile.specs.Places.{byte, word, long, whole, u16, limited, counted, exactly, absent, first-of-row, second-of-row, row-start, row-count, trigger, rest, row-numbers, member-numbers, criterion-numbers}
 use Rattle.profile.specs.Decoded.{test-from, row-from, member-from, criterion-with, criterion-from, stored}
 use Rattle.profile.specs.declared.Row.{Row}
 use Rattle.profile.specs.declared.Member.{Member}
 use Rattle.profile.specs.declared.Criterion.{Criterion}
-use Rattle.profile.proofs.SameFields.{Same, same-got, same-fault, Is, is, then-is, then-must, in-parts, then-give, up-to, field-same, then-tested, then-passed, u8-same, u16-same, u32-same, upTo-same, counted-same, exactly-same, texts-of, naming-same, naming-or-absent-same, used-uri, used-server, used-method, used-information, pattern-in, used-header, used-description}
+use Rattle.profile.proofs.SameFields.{Same, same-got, same-fault, Is, is, then-is, then-must, in-parts, then-give, up-to, field-same, then-tested, then-passed, u8-same, u16-same, u32-same, limited-same, counted-same, exactly-same, texts-of, naming-same, naming-or-absent-same, used-uri, used-server, used-method, used-information, pattern-in, used-header, used-description}
 
 -- ---- rows
 
@@ -31,7 +31,7 @@ module _ (strings : List Stored) (s : List ℕ) (at n : ℕ) where
   -- what is read after the kind
   abbrev After : ℕ → Out (Row × ℕ)
   After k =
-      rowFirst s (texts-of strings) k (at + 2) >>= (λ first. rowSecond s (texts-of strings) k (at + 4) >>= (λ second. upTo s (at + 6) 6 >>= (λ set.
+      first-of-row s (texts-of strings) k (at + 2) >>= (λ first. second-of-row s (texts-of strings) k (at + 4) >>= (λ second. limited s (at + 6) 6 >>= (λ set.
       good (record { negated = n; kind = k; first = first; second = second; set = set }, at + 7))))
 
   abbrev Tested : ℕ → Test → ℕ → Row × ℕ → Type 0
@@ -46,39 +46,39 @@ module _ (strings : List Stored) (s : List ℕ) (at n : ℕ) where
   set-place : at + 6 + 1 ≡ at + 7
   set-place = omega arith
 
-  set-same : Same (Is (byte s (at + 6)) (at + 7) (byte s (at + 6))) (field 1 (λ v. leb v 6) s (at + 6)) (upTo s (at + 6) 6)
-  set-same = up-to (at + 7) set-place (upTo-same s (at + 6) 6)
+  set-same : Same (Is (byte s (at + 6)) (at + 7) (byte s (at + 6))) (field 1 (λ v. leb v 6) s (at + 6)) (limited s (at + 6) 6)
+  set-same = up-to (at + 7) set-place (limited-same s (at + 6) 6)
 
   none-same : Same (Is (word s (at + 4)) (at + 6) (word s (at + 4))) (judging.no-second s (at + 4)) (exactly s absent (at + 4))
   none-same = up-to (at + 6) second-place (exactly-same s (at + 4) absent)
 
   uri-same : Same (Tested 0) (judging.uri-test strings s (at + 2)) (After 0)
-  unfolding test-from rowFirst rowSecond
+  unfolding test-from first-of-row second-of-row
   uri-same =
       then-is (Tested 0) _ _ (up-to (at + 4) first-place (naming-same strings as-uri 0 (λ x. x .bytes) used-uri s (at + 2)))
       (then-is (Tested 0) _ _ none-same (then-is (Tested 0) _ _ set-same (same-got is)))
 
   method-same : Same (Tested 1) (judging.method-test strings s (at + 2)) (After 1)
-  unfolding test-from rowFirst rowSecond
+  unfolding test-from first-of-row second-of-row
   method-same =
       then-is (Tested 1) _ _ (up-to (at + 4) first-place (naming-same strings as-method 1 (λ x. x .bytes) used-method s (at + 2)))
       (then-is (Tested 1) _ _ none-same (then-is (Tested 1) _ _ set-same (same-got is)))
 
   header-same : Same (Tested 2) (judging.patterns-test strings header s (at + 2)) (After 2)
-  unfolding test-from rowFirst rowSecond
+  unfolding test-from first-of-row second-of-row
   header-same =
       then-is (Tested 2) _ _ (up-to (at + 4) first-place (naming-same strings as-pattern 2 pattern-in used-header s (at + 2)))
       (then-is (Tested 2) _ _ (up-to (at + 6) second-place (naming-or-absent-same strings as-pattern 2 pattern-in used-header s (at + 4)))
       (then-is (Tested 2) _ _ set-same (same-got is)))
 
   case-same : Same (Tested 3) (judging.case-test s (at + 2)) (After 3)
-  unfolding test-from rowFirst rowSecond
+  unfolding test-from first-of-row second-of-row
   case-same =
       then-is (Tested 3) _ _ (up-to (at + 4) first-place (counted-same s (at + 2) 3))
       (then-is (Tested 3) _ _ none-same (then-is (Tested 3) _ _ set-same (same-got is)))
 
   description-same : Same (Tested 4) (judging.patterns-test strings description s (at + 2)) (After 4)
-  unfolding test-from rowFirst rowSecond
+  unfolding test-from first-of-row second-of-row
   description-same =
       then-is (Tested 4) _ _ (up-to (at + 4) first-place (naming-same strings as-pattern 4 pattern-in used-description s (at + 2)))
       (then-is (Tested 4) _ _ (up-to (at + 6) second-place (naming-or-absent-same strings as-pattern 4 pattern-in used-description s (at + 4)))
@@ -93,10 +93,10 @@ module _ (strings : List Stored) (s : List ℕ) (at n : ℕ) where
   test-same (suc (suc (suc (suc (suc k))))) h = let l = leb→le (suc (suc (suc (suc (suc k))))) 4 h in absurd (omega arith)
 
 pub row-same : (strings : List Stored) (s : List ℕ) (before : List image.Row) (at : ℕ)
-    → Same (Is (row-from strings s at) (at + 7) (rowAt s at, at + 7)) (judging.row strings before s at) (places.row s (texts-of strings) at)
-unfolding places.row row-from upTo
+    → Same (Is (row-from strings s at) (at + 7) (row-numbers s at, at + 7)) (judging.row strings before s at) (places.row s (texts-of strings) at)
+unfolding places.row row-from limited
 row-same strings s before at =
-    then-is _ _ _ (upTo-same s at 1)
+    then-is _ _ _ (limited-same s at 1)
     (then-passed _ (λ v. leb v 4) (at + 1) _ _ (up-to (at + 2) (omega arith) (u8-same s (at + 1)))
     (λ t. then-give (λ (x : Test). record { place = at; negated = eqb (byte s at) 1; test = x }) (test-same strings s at (byte s at) (byte s (at + 1)) t)))
 
@@ -112,7 +112,7 @@ follows-same (a ∷ []) r g = refl
 follows-same (a ∷ b ∷ l) r g = follows-same (b ∷ l) r g
 
 pub member-same : (s : List ℕ) (rows : ℕ) (l : List Member) (at : ℕ)
-    → Same (Is (member-from s at) (at + 4) (memberAt s at, at + 4)) (judging.member rows (map member-with l) s at) (places.member s rows (places.follows l) at)
+    → Same (Is (member-from s at) (at + 4) (member-numbers s at, at + 4)) (judging.member rows (map member-with l) s at) (places.member s rows (places.follows l) at)
 unfolding places.member
 member-same s rows l at =
     then-tested _ (λ v. ltb v rows) at _ _ (u16-same s at)
@@ -127,16 +127,16 @@ repeats-same strings [] p = refl
 repeats-same strings (c ∷ l) p = ap (λ (b : Bool). eqb (c .priority) p || b) (repeats-same strings l p)
 
 module _ (s : List ℕ) (form at : ℕ) where
-  start-same : Same (Is (word s at) (at + 2) (word s at)) (field 2 (judging.first-ok form) s at) (rowStart s form at)
-  unfolding rowStart
+  start-same : Same (Is (word s at) (at + 2) (word s at)) (field 2 (judging.first-ok form) s at) (row-start s form at)
+  unfolding row-start
   start-same = by (eqb form 2)
     where
       by : (b : Bool) → Same (Is (word s at) (at + 2) (word s at)) (field 2 (λ v. not b || eqb v 0) s at) (cond b (exactly s 0 at) (u16 s at))
       by true = exactly-same s at 0
       by false = then-give (λ v. v) (u16-same s at)
 
-  count-same : (rows first : ℕ) → Same (Is (word s at) (at + 2) (word s at)) (field 2 (judging.count-ok rows form first) s at) (rowCount s rows form first at)
-  unfolding rowCount
+  count-same : (rows first : ℕ) → Same (Is (word s at) (at + 2) (word s at)) (field 2 (judging.count-ok rows form first) s at) (row-count s rows form first at)
+  unfolding row-count
   count-same rows first = by (eqb form 2)
     where
       by : (b : Bool) → Same (Is (word s at) (at + 2) (word s at)) (field 2 (λ v. pick b (eqb v 0) (leb 1 v && leb v 32 && leb (first + v) rows)) s at)
@@ -145,25 +145,25 @@ module _ (s : List ℕ) (form at : ℕ) where
       by false = field-same (λ v. leb 1 v && leb v 32 && leb (first + v) rows) at (u16-same s at)
 
 pub criterion-same : (strings : List Stored) (s : List ℕ) (rows : ℕ) (l : List Criterion) (at : ℕ)
-    → Same (Is (criterion-from strings s at) (at + 15) (criterionAt s at, at + 15)) (judging.criterion strings rows (map (criterion-with strings) l) s at)
+    → Same (Is (criterion-from strings s at) (at + 15) (criterion-numbers s at, at + 15)) (judging.criterion strings rows (map (criterion-with strings) l) s at)
     (places.criterion s (texts-of strings) rows (places.stands l) at)
 unfolding places.criterion rest trigger criterion-from
 criterion-same strings s rows l at =
     then-is _ _ _ (u32-same s at)
     (rw (repeats-same strings l (long s at)) (then-must _ (not (places.stands l (long s at))) 6 at (at + 4) _ _
-    (λ t. then-is _ _ _ (up-to (at + 5) (omega arith) (upTo-same s (at + 4) 2))
-    (in-parts _ _ (upTo s (at + 5) 2) _ _ (then-is _ _ _ (upTo-same s (at + 5) 2)
-    (in-parts _ _ (rowStart s (byte s (at + 5)) (at + 5 + 1)) _ _ (then-is _ _ _ (up-to (at + 5 + 3) (omega arith) (start-same s (byte s (at + 5)) (at + 5 + 1)))
-    (in-parts _ _ (rowCount s rows (byte s (at + 5)) (word s (at + 5 + 1)) (at + 5 + 3)) _ _ (then-is _ _ _ (up-to (at + 10) (omega arith) (count-same s (byte s (at + 5)) (at + 5 + 3) rows (word s (at + 5 + 1))))
+    (λ t. then-is _ _ _ (up-to (at + 5) (omega arith) (limited-same s (at + 4) 2))
+    (in-parts _ _ (limited s (at + 5) 2) _ _ (then-is _ _ _ (limited-same s (at + 5) 2)
+    (in-parts _ _ (row-start s (byte s (at + 5)) (at + 5 + 1)) _ _ (then-is _ _ _ (up-to (at + 5 + 3) (omega arith) (start-same s (byte s (at + 5)) (at + 5 + 1)))
+    (in-parts _ _ (row-count s rows (byte s (at + 5)) (word s (at + 5 + 1)) (at + 5 + 3)) _ _ (then-is _ _ _ (up-to (at + 10) (omega arith) (count-same s (byte s (at + 5)) (at + 5 + 3) rows (word s (at + 5 + 1))))
     (then-is _ _ _ (up-to (at + 12) (omega arith) (naming-same strings as-server 0 (λ x. x) used-server s (at + 10)))
-    (then-is _ _ _ (up-to (at + 13) (omega arith) (upTo-same s (at + 12) 2))
+    (then-is _ _ _ (up-to (at + 13) (omega arith) (limited-same s (at + 12) 2))
     (then-is _ _ _ (up-to (at + 15) (omega arith) (naming-or-absent-same strings as-information 5 (λ x. x) used-information s (at + 13)))
     (same-got is)))))))))))))
 
 -- ---- strings
 
 pub string-same : (s : List ℕ) (before : List Stored) (at : ℕ)
-    → Same (Is (stored s at) (at + 2 + word s at) (places.textAt s at, at + 2 + word s at)) (judging.string before s at) (places.string s at)
+    → Same (Is (stored s at) (at + 2 + word s at) (places.text-at s at, at + 2 + word s at)) (judging.string before s at) (places.string s at)
 unfolding places.string places.sized whole
 string-same s before at =
     in-parts _ _ (counted s at 1024) _ _ (then-is _ _ _ (counted-same s at 1024) (by (leb (at + 2 + word s at) (length s))))
@@ -171,7 +171,7 @@ string-same s before at =
     n : ℕ
     n = word s at
 
-    by : (b : Bool) → Same {B = List ℕ × ℕ} (Is (stored s at) (at + 2 + n) (places.textAt s at, at + 2 + n))
+    by : (b : Bool) → Same {B = List ℕ × ℕ} (Is (stored s at) (at + 2 + n) (places.text-at s at, at + 2 + n))
         (and-then (and-then (pick b (got (tt {0}) (at + 2)) (fault 2 (length s))) (λ u next. got (take n (drop next s)) (next + n)))
         (λ t next. got (record { start = at + 2; bytes = t }) next))
         ((must b 2 (length s) >> good n) >>= (λ v. good (take v (drop (at + 2) s), at + 2 + v)))

@@ -16,7 +16,7 @@ use Rattle.profile.specs.Image.{Stored}
 use Rattle.profile.specs.Judging as judging
 use Rattle.profile.specs.Judging.{as-uri, as-method, as-pattern, as-server, as-information, from-option, naming, naming-or-absent}
 use Rattle.profile.specs.Out.{Out, good, bad, must, _>>=_, _>>_}
-use Rattle.profile.specs.Places.{byte, word, long, whole, u8, u16, u32, upTo, counted, exactly, usable, named, namedOrAbsent}
+use Rattle.profile.specs.Places.{byte, word, long, whole, u8, u16, u32, limited, counted, exactly, usable, named, named-or-absent}
 use Rattle.profile.specs.Decoded.{nothing, string-of, or-empty, or-absent}
 
 -- ---- two readings that agree
@@ -130,9 +130,9 @@ module _ (s : List ℕ) (at : ℕ) where
   unfolding u32
   u32-same = whole-same 4 (long s at) (four-bytes s at)
 
-  pub upTo-same : (most : ℕ) → Same (Is (byte s at) (at + 1) (byte s at)) (field 1 (λ v. leb v most) s at) (upTo s at most)
-  unfolding upTo
-  upTo-same most = field-same (λ v. leb v most) at u8-same
+  pub limited-same : (most : ℕ) → Same (Is (byte s at) (at + 1) (byte s at)) (field 1 (λ v. leb v most) s at) (limited s at most)
+  unfolding limited
+  limited-same most = field-same (λ v. leb v most) at u8-same
 
   pub counted-same : (most : ℕ) → Same (Is (word s at) (at + 2) (word s at)) (field 2 (λ v. leb v most) s at) (counted s at most)
   unfolding counted
@@ -178,8 +178,8 @@ module _ {A : Type 0} (strings : List Stored) (as-used : Stored → Option A) (p
   naming-same = then-is _ _ _ (u16-same s at) (used-same (word s at) (at + 2))
 
   pub naming-or-absent-same : Same (Is (or-absent (λ i. val (string-of strings i)) (word s at)) (at + 2) (word s at))
-      (naming-or-absent strings as-used s at) (namedOrAbsent s (texts-of strings) p at)
-  unfolding namedOrAbsent
+      (naming-or-absent strings as-used s at) (named-or-absent s (texts-of strings) p at)
+  unfolding named-or-absent
   naming-or-absent-same = then-is _ _ _ (u16-same s at) (by (eqb (word s at) 65535))
     where
       i : ℕ

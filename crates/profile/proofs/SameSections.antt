@@ -16,7 +16,7 @@ use Rattle.profile.specs.Judging as judging
 use Rattle.profile.specs.Judging.{memberships-of, all-rows-have}
 use Rattle.profile.specs.Out.{Out}
 use Rattle.profile.specs.Places as places
-use Rattle.profile.specs.Places.{word, textAt, many, readStrings, readRows, readMembers, readCriteria, has, placed, spaced, rowAt, memberAt, criterionAt}
+use Rattle.profile.specs.Places.{word, text-at, many, reading-strings, reading-rows, reading-members, reading-criteria, has, placed, spaced, row-numbers, member-numbers, criterion-numbers}
 use Rattle.profile.specs.Decoded.{row-from, member-from, criterion-with, criterion-from, stored, offsets, past}
 use Rattle.profile.specs.declared.Member.{Member}
 use Rattle.profile.proofs.SameFields.{Same, same-got, Is, is, then-is, must-same, texts-of}
@@ -79,49 +79,49 @@ unfolding end-of past
 end-past s zero at = refl
 end-past s (suc n) at = end-past s n (at + 2 + word s at)
 
-stored-texts : (s l : List ℕ) → map (textAt s) l ≡ texts-of (map (stored s) l)
+stored-texts : (s l : List ℕ) → map (text-at s) l ≡ texts-of (map (stored s) l)
 stored-texts s [] = refl
-stored-texts s (o ∷ l) = ap (λ (m : List (List ℕ)). textAt s o ∷ m) (stored-texts s l)
+stored-texts s (o ∷ l) = ap (λ (m : List (List ℕ)). text-at s o ∷ m) (stored-texts s l)
 
 pub strings-same : (s : List ℕ) (n at : ℕ) → Same (Is (map (stored s) (offsets s n at)) (past s n at) (texts-of (map (stored s) (offsets s n at)), past s n at))
-    (entries judging.string n [] s at) (readStrings s n at)
-unfolding readStrings
+    (entries judging.string n [] s at) (reading-strings s n at)
+unfolding reading-strings
 strings-same s n at =
-    rw (along-offsets (stored s) s n at, along-offsets (textAt s) s n at, end-past s n at, stored-texts s (offsets s n at)) at
-    (entries-same judging.string (λ _. places.string s) s (stored s) (textAt s) (λ k. k + 2 + word s k) (λ l m. Unit {0}) (λ l m k h. string-same s l k) (λ l m k h. tt) n at [] [] tt)
+    rw (along-offsets (stored s) s n at, along-offsets (text-at s) s n at, end-past s n at, stored-texts s (offsets s n at)) at
+    (entries-same judging.string (λ _. places.string s) s (stored s) (text-at s) (λ k. k + 2 + word s k) (λ l m. Unit {0}) (λ l m k h. string-same s l k) (λ l m k h. tt) n at [] [] tt)
 
 -- ---- rows, memberships, criteria
 
-pub rows-same : (strings : List Stored) (s : List ℕ) (n at : ℕ) → Same (Is (spaced (row-from strings s) 7 at n) (at + 7 * n) (spaced (rowAt s) 7 at n, at + 7 * n))
-    (entries (judging.row strings) n [] s at) (readRows s (texts-of strings) n at)
-unfolding readRows
+pub rows-same : (strings : List Stored) (s : List ℕ) (n at : ℕ) → Same (Is (spaced (row-from strings s) 7 at n) (at + 7 * n) (spaced (row-numbers s) 7 at n, at + 7 * n))
+    (entries (judging.row strings) n [] s at) (reading-rows s (texts-of strings) n at)
+unfolding reading-rows
 rows-same strings s n at =
-    spaced-same (judging.row strings) (λ _. places.row s (texts-of strings)) s (row-from strings s) (rowAt s) 7 (λ l m. Unit {0})
+    spaced-same (judging.row strings) (λ _. places.row s (texts-of strings)) s (row-from strings s) (row-numbers s) 7 (λ l m. Unit {0})
     (λ l m k h. row-same strings s l k) (λ l m k h. tt) tt n at
 
 -- the entries before are those by places, read so
 map-more : {A B : Type 0} (c : B → A) (l : List A) (m : List B) (b : B) → l ≡ map c m → l ++ (c b ∷ []) ≡ map c (m ++ (b ∷ []))
 map-more c l m b e = rw (e, map-append c m (b ∷ []))
 
-pub members-same : (s : List ℕ) (rows n at : ℕ) → Same (Is (spaced (member-from s) 4 at n) (at + 4 * n) (spaced (memberAt s) 4 at n, at + 4 * n))
-    (entries (judging.member rows) n [] s at) (readMembers s rows n at)
-unfolding readMembers
+pub members-same : (s : List ℕ) (rows n at : ℕ) → Same (Is (spaced (member-from s) 4 at n) (at + 4 * n) (spaced (member-numbers s) 4 at n, at + 4 * n))
+    (entries (judging.member rows) n [] s at) (reading-members s rows n at)
+unfolding reading-members
 members-same s rows n at =
-    spaced-same (judging.member rows) (λ before. places.member s rows (places.follows before)) s (member-from s) (memberAt s) 4 (λ l m. l ≡ map member-with m)
-    (λ l m k e. rw e (member-same s rows m k)) (λ l m k e. map-more member-with l m (memberAt s k) e) refl n at
+    spaced-same (judging.member rows) (λ before. places.member s rows (places.follows before)) s (member-from s) (member-numbers s) 4 (λ l m. l ≡ map member-with m)
+    (λ l m k e. rw e (member-same s rows m k)) (λ l m k e. map-more member-with l m (member-numbers s k) e) refl n at
 
 pub criteria-same : (strings : List Stored) (s : List ℕ) (rows n at : ℕ)
-    → Same (Is (spaced (criterion-from strings s) 15 at n) (at + 15 * n) (spaced (criterionAt s) 15 at n, at + 15 * n))
-    (entries (judging.criterion strings rows) n [] s at) (readCriteria s (texts-of strings) rows n at)
-unfolding readCriteria criterion-from
+    → Same (Is (spaced (criterion-from strings s) 15 at n) (at + 15 * n) (spaced (criterion-numbers s) 15 at n, at + 15 * n))
+    (entries (judging.criterion strings rows) n [] s at) (reading-criteria s (texts-of strings) rows n at)
+unfolding reading-criteria criterion-from
 criteria-same strings s rows n at =
-    spaced-same (judging.criterion strings rows) (λ before. places.criterion s (texts-of strings) rows (places.stands before)) s (criterion-from strings s) (criterionAt s) 15
+    spaced-same (judging.criterion strings rows) (λ before. places.criterion s (texts-of strings) rows (places.stands before)) s (criterion-from strings s) (criterion-numbers s) 15
     (λ l m. l ≡ map (criterion-with strings) m)
-    (λ l m k e. rw e (criterion-same strings s rows m k)) (λ l m k e. map-more (criterion-with strings) l m (criterionAt s k) e) refl n at
+    (λ l m k e. rw e (criterion-same strings s rows m k)) (λ l m k e. map-more (criterion-with strings) l m (criterion-numbers s k) e) refl n at
 
 -- ---- every row has 1 to 8
 
-has-same : (s : List ℕ) (n at r : ℕ) → memberships-of r (spaced (member-from s) 4 at n) ≡ has (spaced (memberAt s) 4 at n) r
+has-same : (s : List ℕ) (n at r : ℕ) → memberships-of r (spaced (member-from s) 4 at n) ≡ has (spaced (member-numbers s) 4 at n) r
 unfolding spaced has
 has-same s zero at r = refl
 has-same s (suc n) at r = by (eqb (word s at) r) _ _ (has-same s n (at + 4) r)
@@ -139,6 +139,6 @@ placed-same strings s l m e (suc n) r at k =
 
 -- the memberships and the rows of an image, by places
 pub all-placed-same : (strings : List Stored) (s : List ℕ) (n at n-rows first k : ℕ) → Same (Is (tt {0}) k (tt {0}))
-    (all-rows-have (spaced (member-from s) 4 at n) 0 (spaced (row-from strings s) 7 first n-rows) s k) (placed (has (spaced (memberAt s) 4 at n)) n-rows 0 first)
+    (all-rows-have (spaced (member-from s) 4 at n) 0 (spaced (row-from strings s) 7 first n-rows) s k) (placed (has (spaced (member-numbers s) 4 at n)) n-rows 0 first)
 all-placed-same strings s n at n-rows first k =
-    placed-same strings s (spaced (member-from s) 4 at n) (spaced (memberAt s) 4 at n) (has-same s n at) n-rows 0 first k
+    placed-same strings s (spaced (member-from s) 4 at n) (spaced (member-numbers s) 4 at n) (has-same s n at) n-rows 0 first k

@@ -12,7 +12,7 @@ use borrow.Author.Tests.{leb-true}
 use Rattle.profile.specs.declared.Field.the-variants.{Is}
 use lib.Seq.{take-suc-set, getD-set-same, getD-set-other, drop-drop, drop-set-lt}
 use Rattle.profile.specs.Out.{good, bad, _>>_}
-use Rattle.profile.specs.Places.{many, readStrings, string, sized, counted, whole, word, textAt, texts, Inside}
+use Rattle.profile.specs.Places.{many, reading-strings, string, sized, counted, whole, word, text-at, texts, Inside}
 use Rattle.profile.specs.Decoded.{offsets, past}
 use Rattle.profile.specs.Answers.{Tabled, Filled}
 use Rattle.profile.proofs.Laws.{bind-inv, must-inv, counted-inv, good-inj}
@@ -22,7 +22,7 @@ pub record Head (s : List ℕ) (n : ℕ) (before table : List ℕ) (at k : ℕ) 
   pub count : k ≤ n
   pub low : at ≤ 32768
   pub long : length table ≡ 1024
-  pub so-far : readStrings s n 3 ≡ many (λ _. string s) (n - k) at (texts s k table)
+  pub so-far : reading-strings s n 3 ≡ many (λ _. string s) (n - k) at (texts s k table)
   pub inside : Inside s k table
   pub places : take k table ++ offsets s (n - k) at ≡ offsets s n 3
   pub end : past s (n - k) at ≡ past s n 3
@@ -33,7 +33,7 @@ abbrev In : List ℕ → List ℕ → ℕ → Type 0
 In s table k = getD table k 0 + 2 + word s (getD table k 0) ≤ length s
 
 pub head-first : (s : List ℕ) (n : ℕ) (table : List ℕ) → length table ≡ 1024 → Head s n table table 3 0
-unfolding readStrings
+unfolding reading-strings
 head-first s n table h = record { count = omega arith; low = omega arith; long = h; so-far = rw sub-zero; inside = below-none (In s table); places = ap (λ (k : ℕ). offsets s k 3) (sub-zero n); end = ap (λ (k : ℕ). past s k 3) (sub-zero n); rest = refl }
 
 pub sized-inv : (s : List ℕ) (at v : ℕ) → sized s at ≡ good v → (v ≡ word s at) × (v ≤ 1024) × (at + 2 + v ≤ length s)
@@ -46,7 +46,7 @@ sized-inv s at v e =
     let l = leb-true (at + 2 + n) (length s) (h .0) in
     (omega arith, omega arith, omega arith)
 
-string-is : (s : List ℕ) (at v : ℕ) → sized s at ≡ good v → string s at ≡ good (textAt s at, at + 2 + v)
+string-is : (s : List ℕ) (at v : ℕ) → sized s at ≡ good v → string s at ≡ good (text-at s at, at + 2 + v)
 unfolding string
 string-is s at v e = rw (e, sized-inv s at v e .0)
 
@@ -62,7 +62,7 @@ drop-more : (k : ℕ) (a b : List ℕ) → drop k a ≡ drop k b → drop (k + 1
 drop-more k a b e = sym (drop-drop 1 k a) ∙ ap (drop 1) e ∙ drop-drop 1 k b
 
 module _ (s : List ℕ) (n : ℕ) (before table : List ℕ) (at k : ℕ) (hd : Head s n before table at k) where
-  texts-more : k < 1024 → texts s (k + 1) (set table k at) ≡ texts s k table ++ (textAt s at ∷ [])
+  texts-more : k < 1024 → texts s (k + 1) (set table k at) ≡ texts s k table ++ (text-at s at ∷ [])
   texts-more h = rw (add-one k, take-suc-set table k at (omega arith), map-append)
 
   pub head-more : (v : ℕ) → length s ≤ 32768 → n ≤ 1024 → k < n → sized s at ≡ good v → Head s n before (set table k at) (at + 2 + v) (k + 1)
@@ -72,7 +72,7 @@ module _ (s : List ℕ) (n : ℕ) (before table : List ℕ) (at k : ℕ) (hd : H
         count = omega arith;
         low = omega arith;
         long = length-set table k at ∙ hd .long;
-        so-far = hd .so-far ∙ many-step (λ _. string s) n k at (texts s k table) (textAt s at) (at + 2 + v) h (string-is s at v e)
+        so-far = hd .so-far ∙ many-step (λ _. string s) n k at (texts s k table) (text-at s at) (at + 2 + v) h (string-is s at v e)
             ∙ ap (many (λ _. string s) (n - (k + 1)) (at + 2 + v)) (sym (texts-more (omega arith)));
         inside = below-more (In s (set table k at)) k
             (λ j l. rw (getD-set-other table k j at 0 (omega arith)) (hd .inside j l))
@@ -85,7 +85,7 @@ module _ (s : List ℕ) (n : ℕ) (before table : List ℕ) (at k : ℕ) (hd : H
         rest = drop-set-lt (k + 1) table k at (omega arith) ∙ drop-more k table before (hd .rest);
       }
 
-  pub head-bad : (m p : ℕ) → k < n → sized s at ≡ bad m p → readStrings s n 3 ≡ bad m p
+  pub head-bad : (m p : ℕ) → k < n → sized s at ≡ bad m p → reading-strings s n 3 ≡ bad m p
   unfolding string
   head-bad m p h e = hd .so-far ∙ many-bad (λ _. string s) n k at (texts s k table) m p h (rw e)
 

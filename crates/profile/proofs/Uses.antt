@@ -13,11 +13,11 @@ use Rattle.octets.specs.Lists.{empty}
 use Rattle.octets.specs.Bytes.{token}
 use Rattle.pattern.specs.Answers.{is-pattern}
 use Rattle.profile.specs.Out.{good, bad, _>>=_}
-use Rattle.profile.specs.Places.{u16, word, textAt, texts, usable, named, exactly}
+use Rattle.profile.specs.Places.{u16, word, text-at, texts, usable, named, exactly}
 use Rattle.profile.specs.Answers.{Table}
 use Rattle.profile.proofs.Laws.{is, refused}
 
-pub text-is : (s : List ℕ) (o n : ℕ) → n ≡ word s o → take (o + 2 + n - (o + 2)) (drop (o + 2) s) ≡ textAt s o
+pub text-is : (s : List ℕ) (o n : ℕ) → n ≡ word s o → take (o + 2 + n - (o + 2)) (drop (o + 2) s) ≡ text-at s o
 text-is s o n e = rw (e, add-sub-cancel-left)
 
 -- a string by its use
@@ -56,10 +56,10 @@ module _ (s : List ℕ) (n : ℕ) (table : List ℕ) (tb : Table s n table) wher
   taken = length-take-le n table (omega (arith, tb .long, tb .count))
 
   pub texts-length : length (texts s n table) ≡ n
-  texts-length = length-map (take n table) (textAt s) ∙ taken
+  texts-length = length-map (take n table) (text-at s) ∙ taken
 
-  pub texts-at : (i : ℕ) → i < n → getD (texts s n table) i [] ≡ textAt s (getD table i 0)
-  texts-at i h = getD-map-in (textAt s) (take n table) i 0 [] (omega (arith, taken)) ∙ ap (textAt s) (getD-take n table i 0 h)
+  pub texts-at : (i : ℕ) → i < n → getD (texts s n table) i [] ≡ text-at s (getD table i 0)
+  texts-at i h = getD-map-in (text-at s) (take n table) i 0 [] (omega (arith, taken)) ∙ ap (text-at s) (getD-take n table i 0 h)
 
   module _ (p at : ℕ) where
     pub named-bad : (m q : ℕ) → u16 s at ≡ bad m q → bad m q ≡ named s (texts s n table) p at
@@ -70,11 +70,11 @@ module _ (s : List ℕ) (n : ℕ) (table : List ℕ) (tb : Table s n table) wher
     unfolding named
     named-out i e h = rw (e, texts-length, le-ltb i n h)
 
-    pub named-wrong : (i o : ℕ) (t : List ℕ) (b : Bool) → u16 s at ≡ good i → i < n → o ≡ getD table i 0 → t ≡ textAt s o → b ≡ usable p t → b ≡ false → bad 5 at ≡ named s (texts s n table) p at
+    pub named-wrong : (i o : ℕ) (t : List ℕ) (b : Bool) → u16 s at ≡ good i → i < n → o ≡ getD table i 0 → t ≡ text-at s o → b ≡ usable p t → b ≡ false → bad 5 at ≡ named s (texts s n table) p at
     unfolding named
     named-wrong i o t b e h eo et eb f = rw (e, texts-length, lt-ltb i n h, texts-at i h, ← eo, ← et, ← eb, f)
 
-    pub named-yes : (i o : ℕ) (t : List ℕ) (b : Bool) → u16 s at ≡ good i → i < n → o ≡ getD table i 0 → t ≡ textAt s o → b ≡ usable p t → b ≡ true → good i ≡ named s (texts s n table) p at
+    pub named-yes : (i o : ℕ) (t : List ℕ) (b : Bool) → u16 s at ≡ good i → i < n → o ≡ getD table i 0 → t ≡ text-at s o → b ≡ usable p t → b ≡ true → good i ≡ named s (texts s n table) p at
     unfolding named
     named-yes i o t b e h eo et eb f = rw (e, texts-length, lt-ltb i n h, texts-at i h, ← eo, ← et, ← eb, f)
 

@@ -5,7 +5,7 @@ use lib.ListN.{length, getD, drop}
 use mathlib.Core.Path.{_≡_}
 use lib.Dec.{leb, eqb}
 use Rattle.profile.specs.Out.{Out, good, bad, must, _>>=_, _>>_}
-use Rattle.profile.specs.Places.{Profile, u8, counted, readStrings, readRows, readMembers, readCriteria, placed, has, texts, Inside, spaced, rowAt, memberAt, criterionAt}
+use Rattle.profile.specs.Places.{Profile, u8, counted, reading-strings, reading-rows, reading-members, reading-criteria, placed, has, texts, Inside, spaced, row-numbers, member-numbers, criterion-numbers}
 use Rattle.profile.specs.declared.Row.{Row}
 use Rattle.profile.specs.declared.Member.{Member}
 use Rattle.profile.specs.Places.{word}
@@ -18,14 +18,14 @@ use Rattle.profile.specs.declared.Pair.the-variants.{Both}
 use Rattle.profile.specs.declared.Field.{Field}
 use Rattle.profile.specs.declared.Field.the-variants.{Is, Refused}
 
-abbrev pub fieldOut : Field → Out ℕ
-fieldOut (Is v) = good v
-fieldOut (Refused n p) = bad n p
+abbrev pub field-out : Field → Out ℕ
+field-out (Is v) = good v
+field-out (Refused n p) = bad n p
 
 -- What the strings' reader leaves: where they end, and the table with their offsets in its first n places; or the refusal
 abbrev pub Tabled : Field → List ℕ → ℕ → List ℕ → Type 0
-Tabled (Is e) s n table = (readStrings s n 3 ≡ good (texts s n table, e)) × Inside s n table × (e ≤ 32768) × (length table ≡ 1024)
-Tabled (Refused m p) s n table = readStrings s n 3 ≡ bad m p
+Tabled (Is e) s n table = (reading-strings s n 3 ≡ good (texts s n table, e)) × Inside s n table × (e ≤ 32768) × (length table ≡ 1024)
+Tabled (Refused m p) s n table = reading-strings s n 3 ≡ bad m p
 
 -- and the table holds the places of the strings, and beyond them what it held
 abbrev pub Filled : Field → List ℕ → ℕ → List ℕ → List ℕ → Type 0
@@ -38,20 +38,20 @@ pub record Table (s : List ℕ) (n : ℕ) (table : List ℕ) : Type 0 where
   pub long : length table ≡ 1024
   pub inside : Inside s n table
 
-abbrev pub pairOut : ℕ → Pair → Out (Member × ℕ)
-pairOut at (Both r g) = good (record { row = r; group = g }, at + 4)
-pairOut at (Pair.Refused n p) = bad n p
+abbrev pub pair-out : ℕ → Pair → Out (Member × ℕ)
+pair-out at (Both r g) = good (record { row = r; group = g }, at + 4)
+pair-out at (Pair.Refused n p) = bad n p
 
 -- a check that is passed, or the refusal
-abbrev pub checkOut : Field → Out Unit
-checkOut (Is v) = good tt
-checkOut (Refused n p) = bad n p
+abbrev pub check-out : Field → Out Unit
+check-out (Is v) = good tt
+check-out (Refused n p) = bad n p
 
 -- What the memberships' reader leaves: where they end, and in the first places of `counts` how many each row has; or the refusal
 abbrev pub Counted : Field → List ℕ → ℕ → ℕ → ℕ → List ℕ → Type 0
 Counted (Is e) s rows n at counts =
-    (ms : List Member) × (readMembers s rows n at ≡ good (ms, e)) × ((r : ℕ) → r < rows → getD counts r 0 ≡ has ms r) × (e ≡ at + 4 * n)
-Counted (Refused m p) s rows n at counts = readMembers s rows n at ≡ bad m p
+    (ms : List Member) × (reading-members s rows n at ≡ good (ms, e)) × ((r : ℕ) → r < rows → getD counts r 0 ≡ has ms r) × (e ≡ at + 4 * n)
+Counted (Refused m p) s rows n at counts = reading-members s rows n at ≡ bad m p
 
 -- that a reading gave a value, without the value
 abbrev pub passed : {A : Type 0} → Out A → Out Unit
@@ -67,43 +67,43 @@ opening s = do
   must (eqb edition 1) 4 0
   counted s 1 1024
 
-unfoldable pub fromCriteria : List ℕ → List (List ℕ) → List Row → List Member → ℕ → ℕ → Out Profile
-fromCriteria s strs rows members n₂ at₄ = do
+unfoldable pub criteria-on : List ℕ → List (List ℕ) → List Row → List Member → ℕ → ℕ → Out Profile
+criteria-on s strs rows members n₂ at₄ = do
   n₄ ← counted s at₄ 64
-  (criteria, end) ← readCriteria s strs n₂ n₄ (at₄ + 2)
+  (criteria, end) ← reading-criteria s strs n₂ n₄ (at₄ + 2)
   must (eqb end (length s)) 3 end
   good (record { strings = strs; rows = rows; members = members; criteria = criteria })
 
-unfoldable pub fromMembers : List ℕ → List (List ℕ) → List Row → ℕ → ℕ → ℕ → Out Profile
-fromMembers s strs rows n₂ r₂ at₃ = do
+unfoldable pub members-on : List ℕ → List (List ℕ) → List Row → ℕ → ℕ → ℕ → Out Profile
+members-on s strs rows n₂ r₂ at₃ = do
   n₃ ← counted s at₃ 16384
-  (members, at₄) ← readMembers s n₂ n₃ (at₃ + 2)
+  (members, at₄) ← reading-members s n₂ n₃ (at₃ + 2)
   placed (has members) n₂ 0 r₂
-  fromCriteria s strs rows members n₂ at₄
+  criteria-on s strs rows members n₂ at₄
 
-unfoldable pub fromRows : List ℕ → List (List ℕ) → ℕ → Out Profile
-fromRows s strs at₂ = do
+unfoldable pub rows-on : List ℕ → List (List ℕ) → ℕ → Out Profile
+rows-on s strs at₂ = do
   n₂ ← counted s at₂ 2048
-  (rows, at₃) ← readRows s strs n₂ (at₂ + 2)
-  fromMembers s strs rows n₂ (at₂ + 2) at₃
+  (rows, at₃) ← reading-rows s strs n₂ (at₂ + 2)
+  members-on s strs rows n₂ (at₂ + 2) at₃
 
 -- the profile that a layout finds in an image
-abbrev pub profileAt : List ℕ → List ℕ → Layout → Profile
-profileAt s table y = record {
+abbrev pub profile-at : List ℕ → List ℕ → Layout → Profile
+profile-at s table y = record {
   strings = texts s (y .strings) table;
-  rows = spaced (rowAt s) 7 (y .rows) (y .«row_count»);
-  members = spaced (memberAt s) 4 (y .members) (y .«member_count»);
-  criteria = spaced (criterionAt s) 15 (y .criteria) (y .«criterion_count»);
+  rows = spaced (row-numbers s) 7 (y .rows) (y .«row_count»);
+  members = spaced (member-numbers s) 4 (y .members) (y .«member_count»);
+  criteria = spaced (criterion-numbers s) 15 (y .criteria) (y .«criterion_count»);
 }
 
-abbrev pub judgedOut : Judged → List ℕ → List ℕ → Out Profile
-judgedOut (Accepted y) s table = good (profileAt s table y)
-judgedOut (Judged.Refused m p) s table = bad m p
+abbrev pub judged-out : Judged → List ℕ → List ℕ → Out Profile
+judged-out (Accepted y) s table = good (profile-at s table y)
+judged-out (Judged.Refused m p) s table = bad m p
 
 -- a field's refusal is the image's
-abbrev pub refusalOf : Field → Judged
-refusalOf (Is v) = Judged.Refused 0 0
-refusalOf (Refused m p) = Judged.Refused m p
+abbrev pub refusal-of : Field → Judged
+refusal-of (Is v) = Judged.Refused 0 0
+refusal-of (Refused m p) = Judged.Refused m p
 
 -- the layout of an accepted image fits it
 abbrev pub Fit : Judged → List ℕ → List ℕ → Type 0

@@ -14,7 +14,7 @@ use Rattle.profile.specs.Image as image
 use Rattle.profile.specs.Image.{Stored, Test, request-uri, method, header, session-case, description, Judged, accepted, refused}
 use Rattle.profile.specs.Judging.{as-handled}
 use Rattle.profile.specs.Places as places
-use Rattle.profile.specs.Places.{byte, word, textAt, spaced, rowAt, memberAt, criterionAt}
+use Rattle.profile.specs.Places.{byte, word, text-at, spaced, row-numbers, member-numbers, criterion-numbers}
 use Rattle.profile.specs.declared.Row.{Row}
 use Rattle.profile.specs.declared.Member.{Member}
 use Rattle.profile.specs.declared.Criterion.{Criterion}
@@ -74,7 +74,7 @@ laid-rows s strings at = laid-members s strings (at + 2) (word s at) (at + 2 + 7
 
 -- a string at the place of its length
 abbrev pub stored : List ℕ → ℕ → Stored
-stored s o = record { start = o + 2; bytes = textAt s o }
+stored s o = record { start = o + 2; bytes = text-at s o }
 
 -- all strings of the image
 unfoldable pub strings : List ℕ → List Stored
@@ -119,11 +119,11 @@ test-from strs r =
 -- the row at a place
 unfoldable pub row-from : List Stored → List ℕ → ℕ → image.Row
 unfolding test-from
-row-from strs s at = record { place = at; negated = eqb (byte s at) 1; test = test-from strs (rowAt s at) }
+row-from strs s at = record { place = at; negated = eqb (byte s at) 1; test = test-from strs (row-numbers s at) }
 
 -- the membership at a place
 abbrev pub member-from : List ℕ → ℕ → image.Member
-member-from s at = record { row = memberAt s at .row; group = memberAt s at .group }
+member-from s at = record { row = member-numbers s at .row; group = member-numbers s at .group }
 
 -- a criterion from its numbers
 unfoldable pub criterion-with : List Stored → Criterion → image.Criterion
@@ -141,7 +141,7 @@ criterion-with strs c = record {
 -- the criterion at a place
 unfoldable pub criterion-from : List Stored → List ℕ → ℕ → image.Criterion
 unfolding criterion-with
-criterion-from strs s at = criterion-with strs (criterionAt s at)
+criterion-from strs s at = criterion-with strs (criterion-numbers s at)
 
 -- ---- the whole
 

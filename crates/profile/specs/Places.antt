@@ -53,8 +53,8 @@ u32 s at = do
   good (long s at)
 
 -- a byte that is at most `most`
-unfoldable pub upTo : List ℕ → ℕ → ℕ → Out ℕ
-upTo s at most = do
+unfoldable pub limited : List ℕ → ℕ → ℕ → Out ℕ
+limited s at most = do
   v ← u8 s at
   must (leb v most) 4 at
   good v
@@ -86,8 +86,8 @@ string s at = do
   n ← sized s at
   good (take n (drop (at + 2) s), at + 2 + n)
 
-unfoldable pub readStrings : List ℕ → ℕ → ℕ → Out (List (List ℕ) × ℕ)
-readStrings s n at = many (λ _. string s) n at []
+unfoldable pub reading-strings : List ℕ → ℕ → ℕ → Out (List (List ℕ) × ℕ)
+reading-strings s n at = many (λ _. string s) n at []
 
 -- ---- trigger rows
 
@@ -107,8 +107,8 @@ named s strs kind at = do
   good i
 
 -- the same, or 65535
-unfoldable pub namedOrAbsent : List ℕ → List (List ℕ) → ℕ → ℕ → Out ℕ
-namedOrAbsent s strs kind at = do
+unfoldable pub named-or-absent : List ℕ → List (List ℕ) → ℕ → ℕ → Out ℕ
+named-or-absent s strs kind at = do
   i ← u16 s at
   must (eqb i absent || ltb i (length strs)) 4 at
   must (eqb i absent || usable kind (getD strs i [])) 5 at
@@ -122,24 +122,24 @@ exactly s v at = do
   good i
 
 -- SessionCase: the case 0..3. Any other kind: a string index
-unfoldable pub rowFirst : List ℕ → List (List ℕ) → ℕ → ℕ → Out ℕ
-rowFirst s strs kind at = cond (eqb kind 3) (counted s at 3) (named s strs kind at)
+unfoldable pub first-of-row : List ℕ → List (List ℕ) → ℕ → ℕ → Out ℕ
+first-of-row s strs kind at = cond (eqb kind 3) (counted s at 3) (named s strs kind at)
 
 -- SIPHeader and SessionDescription: the Content's index or 65535. Any other kind: 65535
-unfoldable pub rowSecond : List ℕ → List (List ℕ) → ℕ → ℕ → Out ℕ
-rowSecond s strs kind at = cond (eqb kind 2 || eqb kind 4) (namedOrAbsent s strs kind at) (exactly s absent at)
+unfoldable pub second-of-row : List ℕ → List (List ℕ) → ℕ → ℕ → Out ℕ
+second-of-row s strs kind at = cond (eqb kind 2 || eqb kind 4) (named-or-absent s strs kind at) (exactly s absent at)
 
 unfoldable pub row : List ℕ → List (List ℕ) → ℕ → Out (Row × ℕ)
 row s strs at = do
-  negated ← upTo s at 1
-  kind ← upTo s (at + 1) 4
-  first ← rowFirst s strs kind (at + 2)
-  second ← rowSecond s strs kind (at + 4)
-  set ← upTo s (at + 6) 6
+  negated ← limited s at 1
+  kind ← limited s (at + 1) 4
+  first ← first-of-row s strs kind (at + 2)
+  second ← second-of-row s strs kind (at + 4)
+  set ← limited s (at + 6) 6
   good (record { negated = negated; kind = kind; first = first; second = second; set = set }, at + 7)
 
-unfoldable pub readRows : List ℕ → List (List ℕ) → ℕ → ℕ → Out (List Row × ℕ)
-readRows s strs n at = many (λ _. row s strs) n at []
+unfoldable pub reading-rows : List ℕ → List (List ℕ) → ℕ → ℕ → Out (List Row × ℕ)
+reading-rows s strs n at = many (λ _. row s strs) n at []
 
 -- ---- memberships: strictly rising by row and then group
 
@@ -161,8 +161,8 @@ member s rows rises at = do
   must (rises r g) 4 at
   good (record { row = r; group = g }, at + 4)
 
-unfoldable pub readMembers : List ℕ → ℕ → ℕ → ℕ → Out (List Member × ℕ)
-readMembers s rows n at = many (λ before. member s rows (follows before)) n at []
+unfoldable pub reading-members : List ℕ → ℕ → ℕ → ℕ → Out (List Member × ℕ)
+reading-members s rows n at = many (λ before. member s rows (follows before)) n at []
 
 -- how many memberships row r has
 unfoldable pub has : List Member → ℕ → ℕ
@@ -184,33 +184,33 @@ stands [] p = false
 stands (k ∷ ks) p = eqb (k .priority) p || stands ks p
 
 -- form 2: no row. Otherwise 1 to 32 rows, in the table
-abbrev pub rightCount : ℕ → ℕ → ℕ → ℕ → Bool
-rightCount rows form first n = cond (eqb form 2) (eqb n 0) (leb 1 n && leb n 32 && leb (first + n) rows)
+abbrev pub right-count : ℕ → ℕ → ℕ → ℕ → Bool
+right-count rows form first n = cond (eqb form 2) (eqb n 0) (leb 1 n && leb n 32 && leb (first + n) rows)
 
-unfoldable pub rowCount : List ℕ → ℕ → ℕ → ℕ → ℕ → Out ℕ
-rowCount s rows form first at = do
+unfoldable pub row-count : List ℕ → ℕ → ℕ → ℕ → ℕ → Out ℕ
+row-count s rows form first at = do
   n ← u16 s at
-  must (rightCount rows form first n) 4 at
+  must (right-count rows form first n) 4 at
   good n
 
-unfoldable pub rowStart : List ℕ → ℕ → ℕ → Out ℕ
-rowStart s form at = cond (eqb form 2) (exactly s 0 at) (u16 s at)
+unfoldable pub row-start : List ℕ → ℕ → ℕ → Out ℕ
+row-start s form at = cond (eqb form 2) (exactly s 0 at) (u16 s at)
 
 unfoldable pub trigger : List ℕ → ℕ → ℕ → Out Trigger
 trigger s rows at = do
-  form ← upTo s at 2
-  first ← rowStart s form (at + 1)
-  count ← rowCount s rows form first (at + 3)
+  form ← limited s at 2
+  first ← row-start s form (at + 1)
+  count ← row-count s rows form first (at + 3)
   good (record { form = form; first = first; count = count })
 
 -- a criterion after its priority
 unfoldable pub rest : List ℕ → List (List ℕ) → ℕ → ℕ → ℕ → Out (Criterion × ℕ)
 rest s strs rows priority at = do
-  part ← upTo s (at + 4) 2
+  part ← limited s (at + 4) 2
   trigger ← trigger s rows (at + 5)
   server ← named s strs 0 (at + 10)
-  handling ← upTo s (at + 12) 2
-  info ← namedOrAbsent s strs 5 (at + 13)
+  handling ← limited s (at + 12) 2
+  info ← named-or-absent s strs 5 (at + 13)
   good (record { priority = priority; part = part; trigger = trigger; server = server; handling = handling; info = info }, at + 15)
 
 unfoldable pub criterion : List ℕ → List (List ℕ) → ℕ → (ℕ → Bool) → ℕ → Out (Criterion × ℕ)
@@ -219,8 +219,8 @@ criterion s strs rows repeats at = do
   must (not (repeats priority)) 6 at
   rest s strs rows priority at
 
-unfoldable pub readCriteria : List ℕ → List (List ℕ) → ℕ → ℕ → ℕ → Out (List Criterion × ℕ)
-readCriteria s strs rows n at = many (λ before. criterion s strs rows (stands before)) n at []
+unfoldable pub reading-criteria : List ℕ → List (List ℕ) → ℕ → ℕ → ℕ → Out (List Criterion × ℕ)
+reading-criteria s strs rows n at = many (λ before. criterion s strs rows (stands before)) n at []
 
 -- ---- the image
 
@@ -230,14 +230,14 @@ judge s = do
   edition ← u8 s 0
   must (eqb edition 1) 4 0
   n₁ ← counted s 1 1024
-  (strs, at₂) ← readStrings s n₁ 3
+  (strs, at₂) ← reading-strings s n₁ 3
   n₂ ← counted s at₂ 2048
-  (rows, at₃) ← readRows s strs n₂ (at₂ + 2)
+  (rows, at₃) ← reading-rows s strs n₂ (at₂ + 2)
   n₃ ← counted s at₃ 16384
-  (members, at₄) ← readMembers s n₂ n₃ (at₃ + 2)
+  (members, at₄) ← reading-members s n₂ n₃ (at₃ + 2)
   placed (has members) n₂ 0 (at₂ + 2)
   n₄ ← counted s at₄ 64
-  (criteria, end) ← readCriteria s strs n₂ n₄ (at₄ + 2)
+  (criteria, end) ← reading-criteria s strs n₂ n₄ (at₄ + 2)
   must (eqb end (length s)) 3 end
   good (record { strings = strs; rows = rows; members = members; criteria = criteria })
 
@@ -247,18 +247,18 @@ unfoldable pub spaced : {A : Type 0} → (ℕ → A) → ℕ → ℕ → ℕ →
 spaced item width at zero = []
 spaced item width at (suc n) = item at ∷ spaced item width (at + width) n
 
-abbrev pub rowAt : List ℕ → ℕ → Row
-rowAt s at = record { negated = byte s at; kind = byte s (at + 1); first = word s (at + 2); second = word s (at + 4); set = byte s (at + 6) }
+abbrev pub row-numbers : List ℕ → ℕ → Row
+row-numbers s at = record { negated = byte s at; kind = byte s (at + 1); first = word s (at + 2); second = word s (at + 4); set = byte s (at + 6) }
 
-abbrev pub memberAt : List ℕ → ℕ → Member
-memberAt s at = record { row = word s at; group = word s (at + 2) }
+abbrev pub member-numbers : List ℕ → ℕ → Member
+member-numbers s at = record { row = word s at; group = word s (at + 2) }
 
-abbrev pub triggerAt : List ℕ → ℕ → Trigger
-triggerAt s at = record { form = byte s at; first = word s (at + 1); count = word s (at + 3) }
+abbrev pub trigger-numbers : List ℕ → ℕ → Trigger
+trigger-numbers s at = record { form = byte s at; first = word s (at + 1); count = word s (at + 3) }
 
-abbrev pub criterionAt : List ℕ → ℕ → Criterion
-criterionAt s at =
-    record { priority = long s at; part = byte s (at + 4); trigger = triggerAt s (at + 5); server = word s (at + 10); handling = byte s (at + 12); info = word s (at + 13) }
+abbrev pub criterion-numbers : List ℕ → ℕ → Criterion
+criterion-numbers s at =
+    record { priority = long s at; part = byte s (at + 4); trigger = trigger-numbers s (at + 5); server = word s (at + 10); handling = byte s (at + 12); info = word s (at + 13) }
 
 -- ---- what the contracts of the code cite
 
@@ -272,11 +272,11 @@ ends (good p) = good (p .1)
 ends (bad n q) = bad n q
 
 -- the string at an offset, and the strings at a table's first n offsets
-abbrev pub textAt : List ℕ → ℕ → List ℕ
-textAt s o = take (word s o) (drop (o + 2) s)
+abbrev pub text-at : List ℕ → ℕ → List ℕ
+text-at s o = take (word s o) (drop (o + 2) s)
 
 abbrev pub texts : List ℕ → ℕ → List ℕ → List (List ℕ)
-texts s n table = map (textAt s) (take n table)
+texts s n table = map (text-at s) (take n table)
 
 -- the strings of the table's first n offsets lie in s
 abbrev pub Inside : List ℕ → ℕ → List ℕ → Type 0

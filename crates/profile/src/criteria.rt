@@ -1,8 +1,8 @@
 // Section four: the criteria.
 ghost use mathlib.Core.Path.{_≡_};
 ghost use Prim.Native.Nat.{_≤_};
-ghost use Rattle.profile.specs.Places.{texts, ends, long, rowStart, rightCount, rowCount, trigger, rest, readCriteria};
-ghost use Rattle.profile.specs.Answers.{fieldOut, checkOut, passed, Table};
+ghost use Rattle.profile.specs.Places.{texts, ends, long, row-start, right-count, row-count, trigger, rest, reading-criteria};
+ghost use Rattle.profile.specs.Answers.{field-out, check-out, passed, Table};
 use crate::Field;
 use crate::fields::exactly_at;
 use crate::fields::long_at;
@@ -15,7 +15,7 @@ use crate::strings::index_or_absent;
 // A trigger's first row: 0 for form 2.
 fn row_start(s: &[u8], form: usize, at: usize) -> Field
     requires { ⌜ at ≤ 200000 ⌝ }
-    ensures { λ r. ⌜ fieldOut r ≡ rowStart (now (s .entry)) form at ⌝ }
+    ensures { λ r. ⌜ field-out r ≡ row-start (now (s .entry)) form at ⌝ }
 {
     if form == 2 {
         exactly_at(s, 0, at)
@@ -26,7 +26,7 @@ fn row_start(s: &[u8], form: usize, at: usize) -> Field
 
 // Whether n rows from `first` are right for the form.
 fn right_count(rows: usize, form: usize, first: usize, n: usize) -> bool
-    ensures { λ b. ⌜ b ≡ rightCount rows form first n ⌝ }
+    ensures { λ b. ⌜ b ≡ right-count rows form first n ⌝ }
 {
     if form == 2 {
         return n == 0;
@@ -45,7 +45,7 @@ fn right_count(rows: usize, form: usize, first: usize, n: usize) -> bool
 
 fn row_count(s: &[u8], rows: usize, form: usize, first: usize, at: usize) -> Field
     requires { ⌜ at ≤ 200000 ⌝ }
-    ensures { λ r. ⌜ fieldOut r ≡ rowCount (now (s .entry)) rows form first at ⌝ }
+    ensures { λ r. ⌜ field-out r ≡ row-count (now (s .entry)) rows form first at ⌝ }
 {
     match word_at(s, at) {
         Field::Is(n) => {
@@ -65,7 +65,7 @@ fn row_count(s: &[u8], rows: usize, form: usize, first: usize, at: usize) -> Fie
 // Form, first row and row count.
 fn trigger_at(s: &[u8], rows: usize, at: usize) -> Field
     requires { ⌜ at ≤ 190000 ⌝ }
-    ensures { λ r. ⌜ checkOut r ≡ passed (trigger (now (s .entry)) rows at) ⌝ }
+    ensures { λ r. ⌜ check-out r ≡ passed (trigger (now (s .entry)) rows at) ⌝ }
 {
     let f = up_to(s, at, 2);
     let Field::Is(form) = f else {
@@ -81,7 +81,7 @@ fn trigger_at(s: &[u8], rows: usize, at: usize) -> Field
 // A criterion after its priority: where it ends, or the refusal.
 fn rest_at(s: &[u8], table: &[u16; 1024], n: usize, rows: usize, at: usize) -> Field
     requires { ⌜ (at ≤ 180000) × Table (now s) n (now table) ⌝ }
-    ensures { λ r. ⌜ fieldOut r ≡ ends (rest (now (s .entry)) (texts (now (s .entry)) n (now (table .entry))) rows (long (now (s .entry)) at) at) ⌝ }
+    ensures { λ r. ⌜ field-out r ≡ ends (rest (now (s .entry)) (texts (now (s .entry)) n (now (table .entry))) rows (long (now (s .entry)) at) at) ⌝ }
 {
     let part = up_to(s, at + 4, 2);
     let Field::Is(_) = part else {
@@ -117,7 +117,7 @@ pub(crate) fn criteria(
     start: usize,
 ) -> Field
     requires { ⌜ (start ≤ 150000) × (n ≤ 64) × Table (now s) strs (now table) ⌝ }
-    ensures { λ r. ⌜ fieldOut r ≡ ends (readCriteria (now (s .entry)) (texts (now (s .entry)) strs (now (table .entry))) rows n start) ⌝ }
+    ensures { λ r. ⌜ field-out r ≡ ends (reading-criteria (now (s .entry)) (texts (now (s .entry)) strs (now (table .entry))) rows n start) ⌝ }
 {
     let mut at = start;
     let mut j: usize = 0;

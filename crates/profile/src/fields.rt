@@ -2,8 +2,8 @@
 ghost use mathlib.Core.Path.{_≡_};
 ghost use Prim.Native.Nat.{_+_, _≤_, _<_};
 ghost use lib.ListN.{length};
-ghost use Rattle.profile.specs.Places.{u8, u16, u32, upTo, counted, exactly, word, long};
-ghost use Rattle.profile.specs.Answers.{fieldOut};
+ghost use Rattle.profile.specs.Places.{u8, u16, u32, limited, counted, exactly, word, long};
+ghost use Rattle.profile.specs.Answers.{field-out};
 use crate::Field;
 
 pub(crate) fn wide(b: u8) -> usize
@@ -21,7 +21,7 @@ pub fn number(s: &[u8], at: usize) -> usize
 }
 
 pub(crate) fn byte_at(s: &[u8], at: usize) -> Field
-    ensures { λ r. ⌜ fieldOut r ≡ u8 (now (s .entry)) at ⌝ }
+    ensures { λ r. ⌜ field-out r ≡ u8 (now (s .entry)) at ⌝ }
 {
     if at < s.len() {
         Field::Is(wide(s[at]))
@@ -35,7 +35,7 @@ pub(crate) fn byte_at(s: &[u8], at: usize) -> Field
 
 pub(crate) fn word_at(s: &[u8], at: usize) -> Field
     requires { ⌜ at ≤ 200000 ⌝ }
-    ensures { λ r. ⌜ fieldOut r ≡ u16 (now (s .entry)) at ⌝ }
+    ensures { λ r. ⌜ field-out r ≡ u16 (now (s .entry)) at ⌝ }
 {
     if at + 2 <= s.len() {
         Field::Is(number(s, at))
@@ -49,7 +49,7 @@ pub(crate) fn word_at(s: &[u8], at: usize) -> Field
 
 // A byte that is at most `most`.
 pub(crate) fn up_to(s: &[u8], at: usize, most: usize) -> Field
-    ensures { λ r. ⌜ fieldOut r ≡ upTo (now (s .entry)) at most ⌝ }
+    ensures { λ r. ⌜ field-out r ≡ limited (now (s .entry)) at most ⌝ }
 {
     match byte_at(s, at) {
         Field::Is(v) => {
@@ -69,7 +69,7 @@ pub(crate) fn up_to(s: &[u8], at: usize, most: usize) -> Field
 // A count that is at most `most`.
 pub(crate) fn count_at(s: &[u8], at: usize, most: usize) -> Field
     requires { ⌜ at ≤ 200000 ⌝ }
-    ensures { λ r. ⌜ fieldOut r ≡ counted (now (s .entry)) at most ⌝ }
+    ensures { λ r. ⌜ field-out r ≡ counted (now (s .entry)) at most ⌝ }
 {
     match word_at(s, at) {
         Field::Is(v) => {
@@ -89,7 +89,7 @@ pub(crate) fn count_at(s: &[u8], at: usize, most: usize) -> Field
 // A number that has to be `v`.
 pub(crate) fn exactly_at(s: &[u8], v: usize, at: usize) -> Field
     requires { ⌜ at ≤ 200000 ⌝ }
-    ensures { λ r. ⌜ fieldOut r ≡ exactly (now (s .entry)) v at ⌝ }
+    ensures { λ r. ⌜ field-out r ≡ exactly (now (s .entry)) v at ⌝ }
 {
     match word_at(s, at) {
         Field::Is(i) => {
@@ -116,7 +116,7 @@ pub fn priority(s: &[u8], at: usize) -> usize
 
 pub(crate) fn long_at(s: &[u8], at: usize) -> Field
     requires { ⌜ at ≤ 200000 ⌝ }
-    ensures { λ r. ⌜ fieldOut r ≡ u32 (now (s .entry)) at ⌝ }
+    ensures { λ r. ⌜ field-out r ≡ u32 (now (s .entry)) at ⌝ }
 {
     if at + 4 <= s.len() {
         Field::Is(priority(s, at))

@@ -3,11 +3,11 @@ ghost use mathlib.Core.Path.{_≡_};
 ghost use mathlib.Core.List.{[]};
 ghost use Prim.Native.Nat.{_+_, _≤_};
 ghost use lib.ListN.{length};
-ghost use Rattle.profile.specs.Places.{texts, spaced, rowAt, memberAt, triggerAt, criterionAt, judge};
+ghost use Rattle.profile.specs.Places.{texts, spaced, row-numbers, member-numbers, trigger-numbers, criterion-numbers, judge};
 ghost use Rattle.profile.specs.Image.{refused};
 ghost use Rattle.profile.specs.Kept.{kept, Judges};
 ghost use Rattle.profile.specs.Decoded.{stored-in, string-of, laid-criteria, laid-members, laid-rows};
-ghost use Rattle.profile.specs.Answers.{fieldOut, LaidAs, Laid, Table, opening, fromCriteria, fromMembers, fromRows, judgedOut, refusalOf, Fit};
+ghost use Rattle.profile.specs.Answers.{field-out, LaidAs, Laid, Table, opening, criteria-on, members-on, rows-on, judged-out, refusal-of, Fit};
 
 mod criteria;
 mod fields;
@@ -90,7 +90,7 @@ pub enum Judged {
 }
 
 fn refusal(f: Field) -> Judged
-    ensures { λ r. ⌜ r ≡ refusalOf f ⌝ }
+    ensures { λ r. ⌜ r ≡ refusal-of f ⌝ }
 {
     match f {
         Field::Is(_) => Judged::Refused {
@@ -103,7 +103,7 @@ fn refusal(f: Field) -> Judged
 
 // The size, the edition and the number of strings.
 fn open_image(s: &[u8]) -> Field
-    ensures { λ r. ⌜ fieldOut r ≡ opening (now (s .entry)) ⌝ }
+    ensures { λ r. ⌜ field-out r ≡ opening (now (s .entry)) ⌝ }
 {
     if 32768 < s.len() {
         return Field::Refused {
@@ -128,7 +128,7 @@ fn open_image(s: &[u8]) -> Field
 // From section 4 on.
 fn from_criteria(s: &[u8], table: &[u16; 1024], y: Layout, at: usize) -> Judged
     requires { ⌜ (at ≤ 120000) × Table (now s) (y .strings) (now table) ⌝ }
-    ensures { λ r. ⌜ judgedOut r (now (s .entry)) (now (table .entry)) ≡ fromCriteria (now (s .entry)) (texts (now (s .entry)) (y .strings) (now (table .entry))) (spaced (rowAt (now (s .entry))) 7 (y .rows) (y .«row_count»)) (spaced (memberAt (now (s .entry))) 4 (y .members) (y .«member_count»)) (y .«row_count») at ⌝ }
+    ensures { λ r. ⌜ judged-out r (now (s .entry)) (now (table .entry)) ≡ criteria-on (now (s .entry)) (texts (now (s .entry)) (y .strings) (now (table .entry))) (spaced (row-numbers (now (s .entry))) 7 (y .rows) (y .«row_count»)) (spaced (member-numbers (now (s .entry))) 4 (y .members) (y .«member_count»)) (y .«row_count») at ⌝ }
     ensures fit { λ r. ⌜ Fit r (now (s .entry)) (now (table .entry)) ⌝ }
     ensures laid { λ r. ⌜ LaidAs r (laid-criteria (now (s .entry)) y at) ⌝ }
 {
@@ -168,7 +168,7 @@ fn from_members(
     at: usize,
 ) -> Judged
     requires { ⌜ (at ≤ 50000) × (rows ≤ 50000) × (n ≤ 2048) × Table (now s) strings (now table) ⌝ }
-    ensures { λ r. ⌜ judgedOut r (now (s .entry)) (now (table .entry)) ≡ fromMembers (now (s .entry)) (texts (now (s .entry)) strings (now (table .entry))) (spaced (rowAt (now (s .entry))) 7 rows n) n rows at ⌝ }
+    ensures { λ r. ⌜ judged-out r (now (s .entry)) (now (table .entry)) ≡ members-on (now (s .entry)) (texts (now (s .entry)) strings (now (table .entry))) (spaced (row-numbers (now (s .entry))) 7 rows n) n rows at ⌝ }
     ensures fit { λ r. ⌜ Fit r (now (s .entry)) (now (table .entry)) ⌝ }
     ensures laid { λ r. ⌜ LaidAs r (laid-members (now (s .entry)) strings rows n at) ⌝ }
 {
@@ -200,7 +200,7 @@ fn from_members(
 // From section 2 on.
 fn from_rows(s: &[u8], table: &[u16; 1024], strings: usize, at: usize) -> Judged
     requires { ⌜ (at ≤ 32768) × Table (now s) strings (now table) ⌝ }
-    ensures { λ r. ⌜ judgedOut r (now (s .entry)) (now (table .entry)) ≡ fromRows (now (s .entry)) (texts (now (s .entry)) strings (now (table .entry))) at ⌝ }
+    ensures { λ r. ⌜ judged-out r (now (s .entry)) (now (table .entry)) ≡ rows-on (now (s .entry)) (texts (now (s .entry)) strings (now (table .entry))) at ⌝ }
     ensures fit { λ r. ⌜ Fit r (now (s .entry)) (now (table .entry)) ⌝ }
     ensures laid { λ r. ⌜ LaidAs r (laid-rows (now (s .entry)) strings at) ⌝ }
 {
@@ -218,7 +218,7 @@ fn from_rows(s: &[u8], table: &[u16; 1024], strings: usize, at: usize) -> Judged
 // The judgement of an image. Of an accepted one the table has the strings' offsets.
 fn judge_image(s: &[u8], table: &mut [u16; 1024]) -> Judged
     requires { ⌜ length (now table) ≡ 1024 ⌝ }
-    ensures { λ r. ⌜ judgedOut r (now (s .entry)) (now (table .exit)) ≡ judge (now (s .entry)) ⌝ }
+    ensures { λ r. ⌜ judged-out r (now (s .entry)) (now (table .exit)) ≡ judge (now (s .entry)) ⌝ }
     ensures fit { λ r. ⌜ Fit r (now (s .entry)) (now (table .exit)) ⌝ }
     ensures laid { λ r. ⌜ Laid r (now (s .entry)) (now (table .entry)) (now (table .exit)) ⌝ }
 {
@@ -237,7 +237,7 @@ fn judge_image(s: &[u8], table: &mut [u16; 1024]) -> Judged
 
 pub fn read_row(s: &[u8], at: usize) -> Row
     requires { ⌜ (at + 7 ≤ length (now s)) × (length (now s) ≤ 32768) ⌝ }
-    ensures { λ r. ⌜ r ≡ rowAt (now (s .entry)) at ⌝ }
+    ensures { λ r. ⌜ r ≡ row-numbers (now (s .entry)) at ⌝ }
 {
     Row {
         negated: wide(s[at]),
@@ -250,7 +250,7 @@ pub fn read_row(s: &[u8], at: usize) -> Row
 
 pub fn read_member(s: &[u8], at: usize) -> Member
     requires { ⌜ (at + 4 ≤ length (now s)) × (length (now s) ≤ 32768) ⌝ }
-    ensures { λ r. ⌜ r ≡ memberAt (now (s .entry)) at ⌝ }
+    ensures { λ r. ⌜ r ≡ member-numbers (now (s .entry)) at ⌝ }
 {
     Member {
         row: number(s, at),
@@ -260,7 +260,7 @@ pub fn read_member(s: &[u8], at: usize) -> Member
 
 fn read_trigger(s: &[u8], at: usize) -> Trigger
     requires { ⌜ (at + 5 ≤ length (now s)) × (length (now s) ≤ 32768) ⌝ }
-    ensures { λ r. ⌜ r ≡ triggerAt (now (s .entry)) at ⌝ }
+    ensures { λ r. ⌜ r ≡ trigger-numbers (now (s .entry)) at ⌝ }
 {
     Trigger {
         form: wide(s[at]),
@@ -271,7 +271,7 @@ fn read_trigger(s: &[u8], at: usize) -> Trigger
 
 pub fn read_criterion(s: &[u8], at: usize) -> Criterion
     requires { ⌜ (at + 15 ≤ length (now s)) × (length (now s) ≤ 32768) ⌝ }
-    ensures { λ r. ⌜ r ≡ criterionAt (now (s .entry)) at ⌝ }
+    ensures { λ r. ⌜ r ≡ criterion-numbers (now (s .entry)) at ⌝ }
 {
     Criterion {
         priority: priority(s, at),

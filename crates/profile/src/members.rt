@@ -3,7 +3,7 @@ ghost use mathlib.Core.Path.{_≡_};
 ghost use Prim.Native.Nat.{_≤_};
 ghost use lib.ListN.{getD, replicate};
 ghost use Rattle.profile.specs.Places.{row, member, comes, placed};
-ghost use Rattle.profile.specs.Answers.{pairOut, checkOut, Counted};
+ghost use Rattle.profile.specs.Answers.{pair-out, check-out, Counted};
 use crate::Field;
 use crate::Pair;
 use crate::fields::word_at;
@@ -27,7 +27,7 @@ fn comes_after(k: usize, row: usize, group: usize, r: usize, g: usize) -> bool
 // The membership at `at`, the k-th before it being (row, group).
 fn member_at(s: &[u8], rows: usize, k: usize, row: usize, group: usize, at: usize) -> Pair
     requires { ⌜ at ≤ 150000 ⌝ }
-    ensures { λ r. ⌜ pairOut at r ≡ member (now (s .entry)) rows (comes k row group) at ⌝ }
+    ensures { λ r. ⌜ pair-out at r ≡ member (now (s .entry)) rows (comes k row group) at ⌝ }
 {
     match word_at(s, at) {
         Field::Is(r) => {
@@ -90,7 +90,7 @@ pub(crate) fn members(
 // After section 3: every row has 1 to 8 memberships.
 pub(crate) fn all_placed(counts: &[u16; 2048], rows: usize, start: usize) -> Field
     requires { ⌜ (rows ≤ 2048) × (start ≤ 60000) ⌝ }
-    ensures { λ r. ⌜ checkOut r ≡ placed (λ k. getD (now (counts .entry)) k 0) rows 0 start ⌝ }
+    ensures { λ r. ⌜ check-out r ≡ placed (λ k. getD (now (counts .entry)) k 0) rows 0 start ⌝ }
 {
     let mut at = start;
     let mut k: usize = 0;

@@ -1,8 +1,8 @@
 // Section two: the trigger rows.
 ghost use mathlib.Core.Path.{_≡_};
 ghost use Prim.Native.Nat.{_≤_};
-ghost use Rattle.profile.specs.Places.{readRows, rowFirst, rowSecond, row, texts, ends};
-ghost use Rattle.profile.specs.Answers.{fieldOut, Table};
+ghost use Rattle.profile.specs.Places.{reading-rows, first-of-row, second-of-row, row, texts, ends};
+ghost use Rattle.profile.specs.Answers.{field-out, Table};
 use crate::Field;
 use crate::fields::count_at;
 use crate::fields::exactly_at;
@@ -13,7 +13,7 @@ use crate::strings::index_or_absent;
 // A row's first: the case 0..3, or a string index.
 fn row_first(s: &[u8], table: &[u16; 1024], n: usize, kind: usize, at: usize) -> Field
     requires { ⌜ (at ≤ 200000) × Table (now s) n (now table) ⌝ }
-    ensures { λ r. ⌜ fieldOut r ≡ rowFirst (now (s .entry)) (texts (now (s .entry)) n (now (table .entry))) kind at ⌝ }
+    ensures { λ r. ⌜ field-out r ≡ first-of-row (now (s .entry)) (texts (now (s .entry)) n (now (table .entry))) kind at ⌝ }
 {
     if kind == 3 {
         count_at(s, at, 3)
@@ -25,7 +25,7 @@ fn row_first(s: &[u8], table: &[u16; 1024], n: usize, kind: usize, at: usize) ->
 // A row's second: the Content, which only a SIPHeader and a SessionDescription have.
 fn row_second(s: &[u8], table: &[u16; 1024], n: usize, kind: usize, at: usize) -> Field
     requires { ⌜ (at ≤ 200000) × Table (now s) n (now table) ⌝ }
-    ensures { λ r. ⌜ fieldOut r ≡ rowSecond (now (s .entry)) (texts (now (s .entry)) n (now (table .entry))) kind at ⌝ }
+    ensures { λ r. ⌜ field-out r ≡ second-of-row (now (s .entry)) (texts (now (s .entry)) n (now (table .entry))) kind at ⌝ }
 {
     if kind == 2 {
         return index_or_absent(s, table, n, kind, at);
@@ -39,7 +39,7 @@ fn row_second(s: &[u8], table: &[u16; 1024], n: usize, kind: usize, at: usize) -
 // A whole row at `at`: where it ends, or the refusal.
 fn row_at(s: &[u8], table: &[u16; 1024], n: usize, at: usize) -> Field
     requires { ⌜ (at ≤ 65520) × Table (now s) n (now table) ⌝ }
-    ensures { λ r. ⌜ fieldOut r ≡ ends (row (now (s .entry)) (texts (now (s .entry)) n (now (table .entry))) at) ⌝ }
+    ensures { λ r. ⌜ field-out r ≡ ends (row (now (s .entry)) (texts (now (s .entry)) n (now (table .entry))) at) ⌝ }
 {
     let negated = up_to(s, at, 1);
     let Field::Is(_) = negated else {
@@ -67,7 +67,7 @@ fn row_at(s: &[u8], table: &[u16; 1024], n: usize, at: usize) -> Field
 // Section 2 after its count: where the rows end.
 pub(crate) fn rows(s: &[u8], table: &[u16; 1024], n: usize, count: usize, start: usize) -> Field
     requires { ⌜ (start ≤ 40000) × (count ≤ 2048) × Table (now s) n (now table) ⌝ }
-    ensures { λ r. ⌜ fieldOut r ≡ ends (readRows (now (s .entry)) (texts (now (s .entry)) n (now (table .entry))) count start) ⌝ }
+    ensures { λ r. ⌜ field-out r ≡ ends (reading-rows (now (s .entry)) (texts (now (s .entry)) n (now (table .entry))) count start) ⌝ }
 {
     let mut at = start;
     let mut k: usize = 0;

@@ -2,8 +2,8 @@
 ghost use mathlib.Core.Path.{_≡_};
 ghost use Prim.Native.Nat.{_+_, _≤_};
 ghost use lib.ListN.{length};
-ghost use Rattle.profile.specs.Places.{sized, named, namedOrAbsent, usable, word, textAt, texts};
-ghost use Rattle.profile.specs.Answers.{fieldOut, Tabled, Filled, Table};
+ghost use Rattle.profile.specs.Places.{sized, named, named-or-absent, usable, word, text-at, texts};
+ghost use Rattle.profile.specs.Answers.{field-out, Tabled, Filled, Table};
 use crate::Field;
 use crate::fields::count_at;
 use crate::fields::number;
@@ -12,7 +12,7 @@ use crate::fields::word_at;
 // The length of the string at `at`, which lies whole in the image.
 fn sized_at(s: &[u8], at: usize) -> Field
     requires { ⌜ at ≤ 65535 ⌝ }
-    ensures { λ r. ⌜ fieldOut r ≡ sized (now (s .entry)) at ⌝ }
+    ensures { λ r. ⌜ field-out r ≡ sized (now (s .entry)) at ⌝ }
 {
     match count_at(s, at, 1024) {
         Field::Is(n) => {
@@ -55,7 +55,7 @@ pub(crate) fn strings(s: &[u8], n: usize, table: &mut [u16; 1024]) -> Field
 // The bytes of the string at an offset: a part of the image, no copy.
 pub(crate) fn text(s: &[u8], o: usize) -> &[u8]
     requires { ⌜ o + 2 + word (now s) o ≤ length (now s) ⌝ }
-    ensures { λ r. ⌜ now r ≡ textAt (now (s .entry)) o ⌝ }
+    ensures { λ r. ⌜ now r ≡ text-at (now (s .entry)) o ⌝ }
 {
     let n = number(s, o);
     let a = o + 2;
@@ -85,7 +85,7 @@ fn fits_use(t: &[u8], purpose: usize) -> bool
 // A string index in the table, of a string that may be used so.
 pub(crate) fn index_at(s: &[u8], table: &[u16; 1024], n: usize, purpose: usize, at: usize) -> Field
     requires { ⌜ (at ≤ 200000) × Table (now s) n (now table) ⌝ }
-    ensures { λ r. ⌜ fieldOut r ≡ named (now (s .entry)) (texts (now (s .entry)) n (now (table .entry))) purpose at ⌝ }
+    ensures { λ r. ⌜ field-out r ≡ named (now (s .entry)) (texts (now (s .entry)) n (now (table .entry))) purpose at ⌝ }
 {
     match word_at(s, at) {
         Field::Is(i) => {
@@ -119,7 +119,7 @@ pub(crate) fn index_or_absent(
     at: usize,
 ) -> Field
     requires { ⌜ (at ≤ 200000) × Table (now s) n (now table) ⌝ }
-    ensures { λ r. ⌜ fieldOut r ≡ namedOrAbsent (now (s .entry)) (texts (now (s .entry)) n (now (table .entry))) purpose at ⌝ }
+    ensures { λ r. ⌜ field-out r ≡ named-or-absent (now (s .entry)) (texts (now (s .entry)) n (now (table .entry))) purpose at ⌝ }
 {
     match word_at(s, at) {
         Field::Is(i) => {

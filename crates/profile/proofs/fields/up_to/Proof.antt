@@ -1,4 +1,4 @@
-use Rattle.profile.proofs.Laws.{upTo-yes, upTo-over, upTo-bad, is, refused}
+use Rattle.profile.proofs.Laws.{limited-yes, limited-over, limited-bad, is, refused}
 use borrow.Author.Needs.{needs}
 use Rattle.profile.proofs.fields.up_to.Statement.{statement}
 use Rattle.profile.proofs.fields.up_to.Tie as tie
@@ -13,13 +13,13 @@ enum-known-number : tie.Need-enum-known-number
 enum-known-number c = search needs
 
 returns : tie.Need-returns
-returns c = search (upTo-yes, is)
+returns c = search (limited-yes, is)
 
 returns-2 : tie.Need-returns-2
-returns-2 c = search (upTo-over, is)
+returns-2 c = search (limited-over, is)
 
 returns-3 : tie.Need-returns-3
-returns-3 c = search (upTo-bad, refused)
+returns-3 c = search (limited-bad, refused)
 
 pub up-to-spec : {M : Type 1} → statement M
 up-to-spec =
