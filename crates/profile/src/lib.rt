@@ -12,8 +12,8 @@ ghost use Rattle.profile.specs.Answers.{field-out, LaidAs, Laid, Table, 
 mod criteria;
 mod fields;
 mod members;
-mod rows;
 mod strings;
+mod trigger_rows;
 
 use crate::criteria::criteria;
 use crate::fields::byte_at;
@@ -23,9 +23,9 @@ pub use crate::fields::priority;
 use crate::fields::wide;
 use crate::members::all_placed;
 use crate::members::members;
-use crate::rows::rows;
 use crate::strings::strings;
 use crate::strings::text;
+use crate::trigger_rows::rows;
 
 // What reading a field gives: a number, or the refusal.
 pub enum Field {

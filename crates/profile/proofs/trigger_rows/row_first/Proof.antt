@@ -1,7 +1,7 @@
 use Rattle.profile.proofs.RowLaws.{rowing}
 use borrow.Author.Needs.{needs}
-use Rattle.profile.proofs.rows.row_first.Statement.{statement}
-use Rattle.profile.proofs.rows.row_first.Tie as tie
+use Rattle.profile.proofs.trigger_rows.row_first.Statement.{statement}
+use Rattle.profile.proofs.trigger_rows.row_first.Tie as tie
 
 count-at-requires : tie.Need-count-at-requires
 count-at-requires c κs = search needs

@@ -1,7 +1,7 @@
 use Rattle.profile.proofs.RowLaws.{row-1, row-2, row-3, row-4, row-5, row-yes}
 use borrow.Author.Needs.{needs}
-use Rattle.profile.proofs.rows.row_at.Statement.{statement}
-use Rattle.profile.proofs.rows.row_at.Tie as tie
+use Rattle.profile.proofs.trigger_rows.row_at.Statement.{statement}
+use Rattle.profile.proofs.trigger_rows.row_at.Tie as tie
 
 up-to-requires : tie.Need-up-to-requires
 up-to-requires c κs = search needs

@@ -1,7 +1,7 @@
 use Rattle.profile.proofs.RowLaws.{rowing}
 use borrow.Author.Needs.{needs}
-use Rattle.profile.proofs.rows.row_second.Statement.{statement}
-use Rattle.profile.proofs.rows.row_second.Tie as tie
+use Rattle.profile.proofs.trigger_rows.row_second.Statement.{statement}
+use Rattle.profile.proofs.trigger_rows.row_second.Tie as tie
 
 index-or-absent-requires : tie.Need-index-or-absent-requires
 index-or-absent-requires c κs = search needs

@@ -2,8 +2,8 @@ use Rattle.profile.specs.Places.{texts}
 use borrow.Author.Needs.{needs}
 use Prim.Native.Nat.{_-_}
 use Rattle.profile.proofs.RowLoop.{RowHead, rows-first, rows-more, rows-bad, rows-end}
-use Rattle.profile.proofs.rows.rows.Statement.{statement}
-use Rattle.profile.proofs.rows.rows.Tie as tie
+use Rattle.profile.proofs.trigger_rows.rows.Statement.{statement}
+use Rattle.profile.proofs.trigger_rows.rows.Tie as tie
 
 abbrev Inv-loop : tie.InvT-loop
 Inv-loop s table n count start at₀ k₀ at k = RowHead s (texts s n table) count start at k
