@@ -1,15 +1,14 @@
--- The lent places while they are filled: what remains to be stored.
+-- A pattern while it is read: what remains, and what the lent places hold at its end.
 use mathlib.Core.Path.{_≡_, refl, sym, ap, ap₂, _∙_, subst⁻¹}
 use mathlib.Core.Bool.{Bool, true, false, not, _&&_, true≢false}
 use mathlib.Core.Option.{Option, none, some}
 use mathlib.Core.List.{List, [], _∷_, _++_}
 use Prim.Native.Nat.{ℕ, suc, _+_, _<_, _≤_}
 use native.Mathlib.Nat.{zero-add}
-use native.Mathlib.Numerals.{add-one}
 use native.Mathlib.Omega.{arith}
 use lib.Dec.{eqb, leb}
-use lib.ListN.{length, getD, drop, set, length-set}
-use lib.Seq.{sets, sets-eq}
+use lib.ListN.{length, getD, drop}
+use lib.Seq.{sets, sets-eq, length-sets}
 use borrow.Author.Tests.{leb-true, not-true, not-false}
 use Rattle.octets.specs.Lists.{pick, peek}
 use Rattle.octets.specs.Option.{_>>=_, holds}
@@ -17,12 +16,13 @@ use Rattle.machine.specs.declared.Shape.{Shape}
 use Rattle.pattern.specs.Answers.{was-read, is-pattern}
 use Rattle.pattern.specs.Pattern.{Atom, Elem, Pattern}
 use Rattle.pattern.specs.Places.{map-got, body-of, PieceAt}
-use Rattle.pattern.specs.Prepared.{starred, atom-of, no-marks, mark, before-at, marks, set-as, sets-of, befores, sets-after, befores-after, marks-of, ends-anchored, shape-by, no-shape, shape-of, FilledFor, Prepared, Ready}
+use Rattle.pattern.specs.Prepared.{starred, no-marks, mark, marks, sets-of, befores, sets-after, befores-after, marks-of, ends-anchored, shape-by, no-shape, shape-of, read-front, FilledFor, Prepared, Ready}
 use Rattle.pattern.specs.Reading.{atom, elem, Body, read-pattern}
 use Rattle.pattern.specs.Drawn.{drawn}
 use Rattle.pattern.specs.declared.edition1.Marks.{Marks}
 use Rattle.pattern.specs.declared.reader.Piece.{Piece}
-use Rattle.pattern.proofs.Elements.{with-elem, Step, body-end, body-last, body-lost, body-more, start-of, finished, read-is, start-le, behind-le, count-empty, starred-elem, atom-elem}
+use Rattle.pattern.proofs.Elements.{with-elem, Step, body-end, body-last, body-more, start-of, finished, read-is, count-empty, starred-elem}
+use Rattle.pattern.proofs.Front.{Stands, front-parts}
 use Rattle.pattern.proofs.Positions.{at-bit, befores-length}
 
 -- ---- what was read
@@ -58,49 +58,21 @@ whole-of s n e = go (body-of true (drop (start-of s) s)) refl
 
 -- ---- the loop
 
-module _ (fold : Bool) (s : List ℕ) (w : Whole s) (old-sets : List (List ℕ)) (old-before : List ℕ) where
-  abbrev all : List Elem
-  all = w .body .parts
-
-  pub record Filling (i : ℕ) (first : Bool) (m : Marks) (ss : List (List ℕ)) (bs : List ℕ) : Type 0 where
+module _ (s : List ℕ) (w : Whole s) where
+  pub record Filling (i : ℕ) (first : Bool) (m : Marks) : Type 0 where
     pub rest : Body
     pub reads : body-of first (drop i s) ≡ some rest
-    pub marked : marks m (rest .parts) ≡ marks no-marks all
+    pub marked : marks m (rest .parts) ≡ marks no-marks (w .body .parts)
     pub right : rest .anchored ≡ w .body .anchored
-    pub stored : sets ss (m .at) (sets-of fold (rest .parts)) ≡ sets old-sets 0 (sets-of fold all)
-    pub masked : sets bs (m .at) (befores m (rest .parts)) ≡ sets old-before 0 (befores no-marks all)
-    pub few : m .at + length (rest .parts) ≤ 60
-    pub room-sets : length ss ≡ 60
-    pub room-before : length bs ≡ 60
-    pub inside : i ≤ length s
-
-  fill-none : (i : ℕ) (m : Marks) → (length s ≡ 0 → ⊥) → i ≡ start-of s → m ≡ no-marks → length old-sets ≡ 60 → length old-before ≡ 60 → Filling i true m old-sets old-before
-  fill-none i m n e z ls lb =
-      subst⁻¹ (λ (k : ℕ). Filling k true m old-sets old-before) e
-      (subst⁻¹ (λ (k : Marks). Filling (start-of s) true k old-sets old-before) z
-      (record {
-        rest = w .body;
-        reads = w .reads;
-        marked = refl;
-        right = refl;
-        stored = refl;
-        masked = refl;
-        few = let f : length all ≤ 60 = w .few in omega arith;
-        room-sets = ls;
-        room-before = lb;
-        inside = start-le s n;
-      }))
 
 -- the invariant: for the pattern that the whole string is
-abbrev pub Fills : Bool → List ℕ → List (List ℕ) → List ℕ → ℕ → Bool → Marks → List (List ℕ) → List ℕ → Type 0
-Fills fold s old-sets old-before i first m ss bs = (w : Whole s) × Filling fold s w old-sets old-before i first m ss bs
+abbrev pub Fills : List ℕ → ℕ → Bool → Marks → Type 0
+Fills s i first m = (w : Whole s) × Filling s w i first m
 
-pub fill-start : (fold : Bool) (s : List ℕ) (old-sets : List (List ℕ)) (old-before : List ℕ) (i : ℕ) → is-pattern s ≡ true → length old-sets ≡ 60 → length old-before ≡ 60
-    → i ≡ start-of s → Fills fold s old-sets old-before i true no-marks old-sets old-before
-fill-start fold s old-sets old-before i e ls lb q =
-    let n : length s ≡ 0 → ⊥ = λ z. true≢false (sym e ∙ sym (count-empty s z)) in
-    let w = whole-of s n e in
-    (w, fill-none fold s w old-sets old-before i no-marks n q refl ls lb)
+pub fill-start : (s : List ℕ) (i : ℕ) → is-pattern s ≡ true → i ≡ start-of s → Fills s i true no-marks
+fill-start s i e q =
+    let w = whole-of s (λ z. true≢false (sym e ∙ sym (count-empty s z))) e in
+    (w, subst⁻¹ (λ (k : ℕ). Filling s w k true no-marks) q (record { rest = w .body; reads = w .reads; marked = refl; right = refl }))
 
 -- what the elements leave in a lent place
 lengths : (fold : Bool) (es : List Elem) → length (sets-of fold es) ≡ length es
@@ -112,44 +84,43 @@ laid l old n e h =
     let q : length l ≤ length old = omega arith in
     sets-eq l old 0 (subst⁻¹ (λ (k : ℕ). k ≤ length old) (zero-add (length l)) q) ∙ ap (λ (k : ℕ). l ++ drop k old) (zero-add (length l) ∙ e)
 
-module _ (fold : Bool) (s : List ℕ) (w : Whole s) (old-sets : List (List ℕ)) (old-before : List ℕ) (ls : length old-sets ≡ 60) (lb : length old-before ≡ 60)
-    (i : ℕ) (first : Bool) (m : Marks) (ss : List (List ℕ)) (bs : List ℕ) (f : Filling fold s w old-sets old-before i first m ss bs) where
-  -- nothing is left but the anchor
-  done : (right : Bool) → body-of first (drop i s) ≡ some (record { parts = []; anchored = right })
-      → FilledFor fold (read-pattern s) m right old-sets ss old-before bs
-  done right e =
-      let q : f .rest ≡ record { parts = []; anchored = right } =
-      let z : _≡_ {A = Option Body} (some (f .rest)) (some (record { parts = []; anchored = right })) = sym (f .reads) ∙ e in cc
-      in
-      let p : f .rest .parts ≡ [] = ap (λ (b : Body). b .parts) q in
-      let few : length (w .body .parts) ≤ 60 = w .few in
-      subst⁻¹ (λ (o : Option Pattern). FilledFor fold o m right old-sets ss old-before bs) (w .is)
-      (record {
-        all-marks = ap (marks m) (sym p) ∙ f .marked;
-        anchored = sym (ap (λ (b : Body). b .anchored) q) ∙ f .right;
-        lent-sets =
-            ap (λ (l : List Elem). sets ss (m .at) (sets-of fold l)) (sym p) ∙ f .stored
-            ∙ laid (sets-of fold (w .body .parts)) old-sets (length (w .body .parts)) (lengths fold (w .body .parts)) (omega arith);
-        lent-before =
-            ap (λ (l : List Elem). sets bs (m .at) (befores m l)) (sym p) ∙ f .masked
-            ∙ laid (befores no-marks (w .body .parts)) old-before (length (w .body .parts)) (befores-length no-marks (w .body .parts)) (omega arith);
-        room-sets = f .room-sets;
-        room-before = f .room-before;
-      })
+module _ (s : List ℕ) (w : Whole s) (i : ℕ) (first : Bool) (m : Marks) (f : Filling s w i first m) where
+  module _ (fold : Bool) (old-sets ss : List (List ℕ)) (old-before bs : List ℕ) (st : Stands fold s old-sets old-before ss bs)
+      (ls : length ss ≡ 60) (lb : length bs ≡ 60) where
+    -- nothing is left but the anchor
+    done : (right : Bool) → body-of first (drop i s) ≡ some (record { parts = []; anchored = right })
+        → FilledFor fold (read-pattern s) m right old-sets ss old-before bs
+    done right e =
+        let q : f .rest ≡ record { parts = []; anchored = right } =
+        let z : _≡_ {A = Option Body} (some (f .rest)) (some (record { parts = []; anchored = right })) = sym (f .reads) ∙ e in cc
+        in
+        let p : f .rest .parts ≡ [] = ap (λ (b : Body). b .parts) q in
+        let few : length (w .body .parts) ≤ 60 = w .few in
+        let all : read-front s ≡ w .body .parts = front-parts true (drop (start-of s) s) (w .body) (w .reads) in
+        let room : length old-sets ≡ 60 = sym (length-sets old-sets 0 (sets-of fold (read-front s))) ∙ ap length (sym (st .sets-are)) ∙ ls in
+        let place : length old-before ≡ 60 = sym (length-sets old-before 0 (befores no-marks (read-front s))) ∙ ap length (sym (st .before-are)) ∙ lb in
+        subst⁻¹ (λ (o : Option Pattern). FilledFor fold o m right old-sets ss old-before bs) (w .is)
+        (record {
+          all-marks = ap (marks m) (sym p) ∙ f .marked;
+          anchored = sym (ap (λ (b : Body). b .anchored) q) ∙ f .right;
+          lent-sets =
+              st .sets-are ∙ ap (λ (es : List Elem). sets old-sets 0 (sets-of fold es)) all
+              ∙ laid (sets-of fold (w .body .parts)) old-sets (length (w .body .parts)) (lengths fold (w .body .parts)) (omega arith);
+          lent-before =
+              st .before-are ∙ ap (λ (es : List Elem). sets old-before 0 (befores no-marks es)) all
+              ∙ laid (befores no-marks (w .body .parts)) old-before (length (w .body .parts)) (befores-length no-marks (w .body .parts)) (omega arith);
+          room-sets = ls;
+          room-before = lb;
+        })
 
-  pub fill-end : length s ≤ i → FilledFor fold (read-pattern s) m false old-sets ss old-before bs
-  fill-end h = done false (body-end s i first h)
+    pub fill-end : length s ≤ i → FilledFor fold (read-pattern s) m false old-sets ss old-before bs
+    fill-end h = done false (body-end s i first h)
 
-  pub fill-last : i < length s → (eqb (getD s i 0) 36 && eqb (i + 1) (length s)) ≡ true → FilledFor fold (read-pattern s) m true old-sets ss old-before bs
-  fill-last h e = done true (body-last s i first h e)
+    pub fill-last : i < length s → (eqb (getD s i 0) 36 && eqb (i + 1) (length s)) ≡ true → FilledFor fold (read-pattern s) m true old-sets ss old-before bs
+    fill-last h e = done true (body-last s i first h e)
 
   module _ (h : i < length s) (r : Piece) (a : PieceAt (map-got (drawn true) (atom first (getD s i 0) (drop (i + 1) s))) s i r)
-      (e : (eqb (getD s i 0) 36 && eqb (i + 1) (length s)) ≡ false) where
-    pub fill-found : r .end ≡ 0 → ⊥
-    fill-found z =
-        let q : _≡_ {A = Option Body} none (some (f .rest)) = sym (body-lost s i first h true r a e z) ∙ f .reads in
-        let y : _≡_ {A = ℕ} 0 1 = cc in omega arith
-
+      (e : (eqb (getD s i 0) 36 && eqb (i + 1) (length s)) ≡ false) (n : r .end ≡ 0 → ⊥) where
     abbrev repeats : Bool
     repeats = eqb (peek (drop (r .end) s)) 42
 
@@ -160,12 +131,11 @@ module _ (fold : Bool) (s : List ℕ) (w : Whole s) (old-sets : List (List ℕ))
     record Split : Type 0 where
       value : Atom
       more : Body
-      drawing : drawn true value ≡ r .set
       reads : body-of false (drop j s) ≡ some more
       is : f .rest ≡ record { parts = elem repeats value ∷ more .parts; anchored = more .anchored }
 
     split : Split
-    split = go (body-more s i first h true r a e fill-found) (body-of false (drop j s)) refl
+    split = go (body-more s i first h true r a e n) (body-of false (drop j s)) refl
       where
         go : (g : Step true s i first (r .end) (r .set)) (o : Option Body) → body-of false (drop j s) ≡ o → Split
         go g none q =
@@ -175,36 +145,20 @@ module _ (fold : Bool) (s : List ℕ) (w : Whole s) (old-sets : List (List ℕ))
             let z : _≡_ {A = Option Body} (some (record { parts = elem repeats (g .value) ∷ more .parts; anchored = more .anchored })) (some (f .rest)) =
             sym (g .left ∙ ap (with-elem (elem repeats (g .value))) q) ∙ f .reads
             in
-            record { value = g .value; more = more; drawing = g .drawing; reads = q; is = cc }
+            record { value = g .value; more = more; reads = q; is = cc }
 
-    pub fill-more : (i′ : ℕ) (m′ : Marks) (u : List ℕ) (v : ℕ) (t : Bool) → ((x : Atom) → r .set ≡ drawn true x → u ≡ set-as fold x) → t ≡ repeats → i′ ≡ j → m′ ≡ mark m t → v ≡ before-at m t
-        → Filling fold s w old-sets old-before i′ false m′ (set ss (m .at) u) (set bs (m .at) v)
-    fill-more i′ m′ u v t eu et ei em ev =
+    pub fill-more : (i′ : ℕ) (m′ : Marks) (t : Bool) → t ≡ repeats → i′ ≡ j → m′ ≡ mark m t → Filling s w i′ false m′
+    fill-more i′ m′ t et ei em =
         let x = split in
-        let xs : List Elem = x .more .parts in
         let p : f .rest .parts ≡ elem repeats (x .value) ∷ x .more .parts = ap (λ (b : Body). b .parts) (x .is) in
         let one : starred (elem repeats (x .value)) ≡ t = starred-elem repeats (x .value) ∙ sym et in
-        let draw : set-as fold (atom-of (elem repeats (x .value))) ≡ u = ap (set-as fold) (atom-elem repeats (x .value)) ∙ sym (eu (x .value) (sym (x .drawing))) in
-        let few : m .at + length (f .rest .parts) ≤ 60 = f .few in
-        let long : length (f .rest .parts) ≡ suc (length (x .more .parts)) = ap length p in
-        subst⁻¹ (λ (k : ℕ). Filling fold s w old-sets old-before k false m′ (set ss (m .at) u) (set bs (m .at) v)) ei
-        (subst⁻¹ (λ (k : Marks). Filling fold s w old-sets old-before j false k (set ss (m .at) u) (set bs (m .at) v)) em
+        subst⁻¹ (λ (k : ℕ). Filling s w k false m′) ei
+        (subst⁻¹ (λ (k : Marks). Filling s w j false k) em
         (record {
           rest = x .more;
           reads = x .reads;
           marked = ap (λ (b : Bool). marks (mark m b) (x .more .parts)) (sym one) ∙ ap (marks m) (sym p) ∙ f .marked;
           right = sym (ap (λ (b : Body). b .anchored) (x .is)) ∙ f .right;
-          stored =
-              ap₂ (λ (k : ℕ) (y : List ℕ). sets (set ss (m .at) y) k (sets-of fold (x .more .parts))) (add-one (m .at)) (sym draw)
-              ∙ ap (λ (l : List Elem). sets ss (m .at) (sets-of fold l)) (sym p) ∙ f .stored;
-          masked =
-              ap₂ (λ (k : ℕ) (y : ℕ). sets (set bs (m .at) y) k (befores (mark m t) (x .more .parts))) (add-one (m .at)) ev
-              ∙ ap (λ (b : Bool). sets (set bs (m .at) (before-at m b)) (suc (m .at)) (befores (mark m b) (x .more .parts))) (sym one)
-              ∙ ap (λ (l : List Elem). sets bs (m .at) (befores m l)) (sym p) ∙ f .masked;
-          few = omega arith;
-          room-sets = length-set ss (m .at) u ∙ f .room-sets;
-          room-before = length-set bs (m .at) v ∙ f .room-before;
-          inside = behind-le s (r .end) (a .inside);
         }))
 
 -- ---- the whole

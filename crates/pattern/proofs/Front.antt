@@ -1,7 +1,7 @@
 -- What stands in the lent places wherever the reading of a string stops: its elements up to there, one after the other.
 use mathlib.Core.Path.{_≡_, refl, sym, ap, ap₂, _∙_, subst⁻¹}
 use mathlib.Core.Bool.{Bool, true, false, _&&_}
-use mathlib.Core.Option.{Option, none, some}
+use mathlib.Core.Option.{Option, none, some, Option·some-injective}
 use mathlib.Core.List.{List, [], _∷_}
 use Prim.Native.Nat.{ℕ, zero, suc, _+_, _<_, _≤_}
 use native.Mathlib.Nat.{not-suc-le-zero}
@@ -11,13 +11,14 @@ use lib.Dec.{eqb}
 use lib.ListN.{length, getD, drop, drop-of-length-le, set}
 use lib.Seq.{sets}
 use Rattle.octets.specs.Lists.{pick, peek, empty}
+use Rattle.octets.specs.Option.{_>>=_}
 use Rattle.octets.proofs.Tests.{either}
 use Rattle.machine.proofs.Places.{drop-at, empty-at}
 use Rattle.pattern.specs.Drawn.{drawn}
 use Rattle.pattern.specs.Pattern.{Atom, Elem}
-use Rattle.pattern.specs.Places.{map-got, front-of, PieceAt}
+use Rattle.pattern.specs.Places.{map-got, body-of, front-of, PieceAt}
 use Rattle.pattern.specs.Prepared.{starred, atom-of, no-marks, mark, before-at, set-as, sets-of, befores, read-front}
-use Rattle.pattern.specs.Reading.{Read, atom, elem, front-from, front}
+use Rattle.pattern.specs.Reading.{Read, atom, elem, Body, body, front-from, front}
 use Rattle.pattern.specs.declared.edition1.Marks.{Marks}
 use Rattle.pattern.specs.declared.reader.Piece.{Piece}
 use Rattle.pattern.proofs.Atoms.{piece-found, piece-lost, map-none, map-some}
@@ -48,6 +49,42 @@ unfolding front
 front-next first b s =
     ap (λ (l : List Elem). pick (eqb b 36 && empty s) [] l)
     (from-ext s (λ t. front (suc (length s)) false t) (λ t. front-of false t) (λ t k. front-fuel (suc (length s)) (suc (length t)) false t (omega (arith, k)) (omega arith)) (atom first b s) (atom-within first b s))
+
+-- ---- where all is read, it is all
+
+step-parts : (body-later : List ℕ → Option Body) (front-later : List ℕ → List Elem) (b : Body)
+    → ((t : List ℕ) (m : Body) → body-later t ≡ some m → front-later t ≡ m .parts) → (t : Bool) (o : Option (Read Atom))
+    → pick t (some (record { parts = []; anchored = true }))
+    (o >>= (λ a. body-later (pick (eqb (peek (a .rest)) 42) (drop 1 (a .rest)) (a .rest)) >>= (λ more.
+    some (record { parts = elem (eqb (peek (a .rest)) 42) (a .got) ∷ more .parts; anchored = more .anchored }))))
+    ≡ some b
+    → pick t [] (front-from front-later o) ≡ b .parts
+step-parts body-later front-later b h true o e = ap (λ (x : Body). x .parts) (Option·some-injective (record { parts = []; anchored = true }) b e)
+step-parts body-later front-later b h false none e = absurd (let z : _≡_ {A = ℕ} 0 1 = cc in omega arith)
+step-parts body-later front-later b h false (some a) e = go (body-later left) refl e
+  where
+    repeats : Bool
+    repeats = eqb (peek (a .rest)) 42
+
+    left : List ℕ
+    left = pick repeats (drop 1 (a .rest)) (a .rest)
+
+    go : (o : Option Body) → body-later left ≡ o → (o >>= (λ more. some (record { parts = elem repeats (a .got) ∷ more .parts; anchored = more .anchored }))) ≡ some b
+        → elem repeats (a .got) ∷ front-later left ≡ b .parts
+    go none q k = absurd (let z : _≡_ {A = ℕ} 0 1 = cc in omega arith)
+    go (some m) q k =
+        ap (λ (l : List Elem). elem repeats (a .got) ∷ l) (h left m q)
+        ∙ ap (λ (x : Body). x .parts) (Option·some-injective (record { parts = elem repeats (a .got) ∷ m .parts; anchored = m .anchored }) b k)
+
+parts-by : (n : ℕ) (first : Bool) (s : List ℕ) (b : Body) → body n first s ≡ some b → front n first s ≡ b .parts
+unfolding body front
+parts-by zero first s b e = absurd (let z : _≡_ {A = ℕ} 0 1 = cc in omega arith)
+parts-by (suc n) first [] b e = ap (λ (x : Body). x .parts) (Option·some-injective (record { parts = []; anchored = false }) b e)
+parts-by (suc n) first (c ∷ s) b e =
+    step-parts (body n false) (λ t. front n false t) b (λ t m q. parts-by n false t m q) (eqb c 36 && empty s) (atom first c s) e
+
+pub front-parts : (first : Bool) (s : List ℕ) (b : Body) → body-of first s ≡ some b → front-of first s ≡ b .parts
+front-parts first s b e = parts-by (suc (length s)) first s b e
 
 -- ---- by place
 

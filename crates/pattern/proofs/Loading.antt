@@ -27,7 +27,7 @@ module _ (fold : Bool) (s : List ℕ) (old-sets : List (List ℕ)) (old-before :
   -- the elements before i are stored, and those from i on decide whether there is a pattern
   pub record Loading (i : ℕ) (first : Bool) (m : Marks) (ss : List (List ℕ)) (bs : List ℕ) : Type 0 where
     pub counts : Counted s i first (m .at)
-    pub fills : is-pattern s ≡ true → Fills fold s old-sets old-before i first m ss bs
+    pub fills : is-pattern s ≡ true → Fills s i first m
     pub stores : Storing fold s old-sets old-before i first m ss bs
     pub low : m .at ≤ 60
     pub room-sets : length ss ≡ 60
@@ -59,7 +59,7 @@ module _ (fold : Bool) (s : List ℕ) (old-sets : List (List ℕ)) (old-before :
         subst⁻¹ (λ (k : Marks). Loading i true k old-sets old-before) z
         (record {
           counts = count-start s i n e;
-          fills = λ y. fill-start fold s old-sets old-before i y ls lb e;
+          fills = λ y. fill-start s i y e;
           stores = store-start fold s old-sets old-before i no-marks e refl;
           low = omega arith;
           room-sets = ls;
@@ -71,16 +71,16 @@ module _ (fold : Bool) (s : List ℕ) (old-sets : List (List ℕ)) (old-before :
       load-end k h next q z =
           let y : is-pattern s ≡ true = sym (count-done s i first (m .at) (l .counts) k) ∙ le-leb (m .at) 60 (l .low) in
           let f = l .fills y in
-          load-filled h next m false ss bs y q (fill-end fold s (f .0) old-sets old-before ls lb i first m ss bs (f .1) k) z
-          (stands-end fold s old-sets old-before i first m ss bs (l .stores) k)
+          let st = stands-end fold s old-sets old-before i first m ss bs (l .stores) k in
+          load-filled h next m false ss bs y q (fill-end s (f .0) i first m (f .1) fold old-sets ss old-before bs st (l .room-sets) (l .room-before) k) z st
 
       module _ (k : i < length s) (t : Bool) (et : t ≡ (eqb (getD s i 0) 36 && eqb (i + 1) (length s))) where
         pub load-last : t ≡ true → (h : Shape) (next : ℕ) → next ≡ peek s → h ≡ shape-by m (eqb next 94) true → Loaded fold s h old-sets ss old-before bs
         load-last e h next q z =
             let y : is-pattern s ≡ true = sym (count-last s i first (m .at) (l .counts) k t et e) ∙ le-leb (m .at) 60 (l .low) in
             let f = l .fills y in
-            load-filled h next m true ss bs y q (fill-last fold s (f .0) old-sets old-before ls lb i first m ss bs (f .1) k (sym et ∙ e)) z
-            (stands-last fold s old-sets old-before i first m ss bs (l .stores) k (sym et ∙ e))
+            let st = stands-last fold s old-sets old-before i first m ss bs (l .stores) k (sym et ∙ e) in
+            load-filled h next m true ss bs y q (fill-last s (f .0) i first m (f .1) fold old-sets ss old-before bs st (l .room-sets) (l .room-before) k (sym et ∙ e)) z st
 
         module _ (r : Piece) (a : PieceAt (map-got (drawn true) (atom first (getD s i 0) (drop (i + 1) s))) s i r) (e : t ≡ false) where
           pub load-lost : r .end ≡ 0 → (h : Shape) → h ≡ no-shape → Loaded fold s h old-sets ss old-before bs
@@ -110,8 +110,7 @@ module _ (fold : Bool) (s : List ℕ) (old-sets : List (List ℕ)) (old-before :
                 let one : m′ .at ≡ m .at + 1 = ap (λ (x : Marks). x .at) em in
                 record {
                   counts = counts-at i′ ei (m′ .at) one;
-                  fills = λ y. let f = l .fills y in
-                      (f .0, fill-more fold s (f .0) old-sets old-before ls lb i first m ss bs (f .1) k r a (sym et ∙ e) i′ m′ u v b eu eb ei em ev);
+                  fills = λ y. let f = l .fills y in (f .0, fill-more s (f .0) i first m (f .1) k r a (sym et ∙ e) n i′ m′ b eb ei em);
                   stores = store-more fold s old-sets old-before i first m ss bs (l .stores) k r a (sym et ∙ e) n i′ m′ u v b eu eb ei em ev;
                   low = omega (arith, load-room free);
                   room-sets = length-set ss (m .at) u ∙ l .room-sets;
