@@ -20,8 +20,17 @@ struct machine {
 
 static inline int peek(const uint8_t *s, size_t n, size_t i) { return i < n ? s[i] : 256; }
 
-static inline void add(uint64_t *set, int lo, int hi) {
-    for (int b = lo; b <= hi; b++) set[b / 64] |= (uint64_t)1 << (b % 64);
+static inline void add_byte(uint64_t *set, int b) { set[b / 64] |= (uint64_t)1 << (b % 64); }
+
+/* Of the 64 bytes from `from` on, those from lo to hi. */
+static inline uint64_t span(int from, int lo, int hi) {
+    if (hi < from || from + 63 < lo) return 0;
+    uint64_t all = ~(uint64_t)0, not_below = lo <= from ? all : all << (lo - from);
+    return from + 63 <= hi ? not_below : not_below & all >> (from + 63 - hi);
+}
+
+static inline void add_range(uint64_t *set, int lo, int hi) {
+    for (int w = 0; w < 4; w++) set[w] |= span(64 * w, lo, hi);
 }
 
 /* All other bytes; `.` and a `^` list never meet byte 0. */
@@ -55,7 +64,7 @@ static size_t list_at(const uint8_t *s, size_t n, size_t i, uint64_t *set) {
             if (hi < lo || opens_class(hi, peek(s, n, i + 2))) return 0;
             i += 2;
         }
-        if (set) add(set, lo, hi);
+        if (set) add_range(set, lo, hi);
     }
     return 0;
 }
@@ -74,7 +83,7 @@ static size_t element_at(const uint8_t *s, size_t n, size_t i, int first, uint64
     } else if (b == '*' && !first) {
         return 0;
     }
-    if (set) add(set, b, b);
+    if (set) add_byte(set, b);
     return i + 1;
 }
 

@@ -3,13 +3,13 @@ use mathlib.Core.Path.{_≡_, refl, sym, ap, ap₂, _∙_}
 use mathlib.Core.Bool.{Bool, true, false, not, _&&_, _||_, true≢false, or-true, or-false, and-true, and-false}
 use Prim.Native.Nat.{ℕ, zero, suc, _+_, _*_, _-_, _/_, _%_, _^_, _<_, _≤_, min, max}
 use native.Mathlib.Omega.{arith}
-use native.Mathlib.Nat.{mod-lt, mul-add-mod-self-right, mul-mod-left, mod-eq-of-lt, min-le-left, lt-of-le-of-lt, div-eq-of-lt, zero-div, pow-suc, div-self, div-one, add-comm, div-lt-iff-lt-mul, div-add-mod', le-refl, one-mul, mul-assoc, lt-of-lt-of-le, zero-add, add-zero}
+use native.Mathlib.Nat.{mod-lt, mul-add-mod-self-right, mul-mod-left, mod-eq-of-lt, min-le-left, lt-of-le-of-lt, div-eq-of-lt, div-le-self, zero-div, pow-suc, div-self, div-one, add-comm, div-lt-iff-lt-mul, div-add-mod', le-refl, one-mul, mul-assoc, lt-of-lt-of-le, zero-add, add-zero}
 use native.Mathlib.Numerals.{add-one}
-use lib.Bits.{bitAnd, bitOr, bitXor, differ, and-step, or-step, xor-step, and-shr, or-shr, xor-shr, and-mask, and-self, and-le-r, or-add-and, xor-add-and, or-shifted-r}
+use lib.Bits.{bitAnd, bitOr, bitXor, differ, and-step, or-step, xor-step, and-shr, or-shr, or-lt, xor-shr, and-mask, and-self, and-le-r, or-add-and, xor-add-and, or-shifted-r}
 use lib.Count.{trailingZeros, under}
-use lib.Dec.{T, T-not, eqb, ltb}
+use lib.Dec.{T, T-not, eqb, ltb, leb}
 use lib.Pow.{pow-pos, pow-lt, pow-mono, pow-add, shl-shr, shr-shr}
-use borrow.Author.Tests.{eq-eqb, ne-eqb, eqb-true, eqb-false, ltb-true, ltb-false, lt-ltb, le-ltb}
+use borrow.Author.Tests.{eq-eqb, ne-eqb, eqb-true, eqb-false, ltb-true, ltb-false, lt-ltb, le-ltb, leb-true, leb-false}
 use borrow.Author.Count.{below-none, below-more}
 use Rattle.octets.specs.Bits.{bit, mask}
 use Rattle.octets.specs.Lists.{pick}
@@ -346,6 +346,41 @@ bit-ones w k = ap (λ (n : ℕ). bit n k) (sym (ones w)) ∙ bit-mask w (λ k. t
 pub mask-of : (w n : ℕ) (f : ℕ → Bool) → n < 2 ^ w → ((k : ℕ) → k < w → bit n k ≡ f k) → n ≡ mask w f
 mask-of w n f h e =
     bit-ext w n (mask w f) h (mask-lt w f) (λ k l. e k l ∙ sym (bit-mask w f k ∙ ap (λ (x : Bool). x && f k) (lt-ltb k w l)))
+
+pub mask-bit : (w : ℕ) (f : ℕ → Bool) (k : ℕ) → k < w → bit (mask w f) k ≡ f k
+mask-bit w f k h = bit-mask w f k ∙ ap (λ (x : Bool). x && f k) (lt-ltb k w h)
+
+pub mask-and : (w : ℕ) (f g : ℕ → Bool) → bitAnd (mask w f) (mask w g) ≡ mask w (λ k. f k && g k)
+mask-and w f g =
+    mask-of w (bitAnd (mask w f) (mask w g)) (λ k. f k && g k) (lt-of-le-of-lt (and-le-r (mask w f) (mask w g)) (mask-lt w g))
+    (λ k h. bit-and (mask w f) (mask w g) k ∙ ap₂ (λ (x y : Bool). x && y) (mask-bit w f k h) (mask-bit w g k h))
+
+pub mask-or : (w : ℕ) (f g : ℕ → Bool) → bitOr (mask w f) (mask w g) ≡ mask w (λ k. f k || g k)
+mask-or w f g =
+    mask-of w (bitOr (mask w f) (mask w g)) (λ k. f k || g k) (or-lt w (mask w f) (mask w g) (mask-lt w f) (mask-lt w g))
+    (λ k h. bit-or (mask w f) (mask w g) k ∙ ap₂ (λ (x y : Bool). x || y) (mask-bit w f k h) (mask-bit w g k h))
+
+-- the bits from s on, as code makes them: `ALL << s`
+pub ones-up : (w s : ℕ) → (2 ^ w - 1) * 2 ^ s % 2 ^ w ≡ mask w (leb s)
+ones-up w s = mask-of w ((2 ^ w - 1) * 2 ^ s % 2 ^ w) (leb s) (mod-lt ((2 ^ w - 1) * 2 ^ s) (pow-pos w)) (λ k h. at k h (leb s k) refl)
+  where
+    cut : (n k : ℕ) → k < w → bit (n % 2 ^ w) k ≡ bit n k
+    cut n k h =
+        ap (λ (x : ℕ). bit x k) (sym (and-mask n w)) ∙ bit-and n (2 ^ w - 1) k ∙ ap (λ (x : Bool). bit n k && x) (bit-ones w k ∙ lt-ltb k w h)
+        ∙ and-true (bit n k)
+
+    at : (k : ℕ) → k < w → (t : Bool) → leb s k ≡ t → bit ((2 ^ w - 1) * 2 ^ s % 2 ^ w) k ≡ t
+    at k h true e =
+        let l = leb-true s k e in
+        let z : k ≡ s + (k - s) = omega arith in
+        cut ((2 ^ w - 1) * 2 ^ s) k h ∙ ap (bit ((2 ^ w - 1) * 2 ^ s)) z ∙ bit-shl (2 ^ w - 1) s (k - s) ∙ bit-ones w (k - s) ∙ lt-ltb (k - s) w (omega arith)
+    at k h false e = cut ((2 ^ w - 1) * 2 ^ s) k h ∙ bit-shl-low (2 ^ w - 1) s k (leb-false s k e)
+
+-- and those below w - s: `ALL >> s`
+pub ones-down : (w s : ℕ) → (2 ^ w - 1) / 2 ^ s ≡ mask w (λ k. ltb (s + k) w)
+ones-down w s =
+    mask-of w ((2 ^ w - 1) / 2 ^ s) (λ k. ltb (s + k) w) (lt-of-le-of-lt (div-le-self (2 ^ w - 1) (2 ^ s)) (omega (arith, pow-pos w)))
+    (λ k h. bit-shr (2 ^ w - 1) s k ∙ bit-ones w (s + k))
 
 -- ---- a mask under way: of the bits below q each says what f says, and no other is set
 

@@ -41,16 +41,15 @@ no-item = record { end = 0; lo = 0; hi = 0 }
 
 item-none : (whole : Option (Read Range)) (s : List ℕ) (i : ℕ) (r : Item) → whole ≡ none → r ≡ no-item → ItemAt whole s i r
 item-none whole s i r e q =
-    subst⁻¹ (λ (x : Item). ItemAt whole s i x) q (record { reads = e; forward = λ n. absurd (n refl); inside = omega arith; rises = omega arith })
+    subst⁻¹ (λ (x : Item). ItemAt whole s i x) q (record { reads = e; forward = λ n. absurd (n refl); inside = omega arith })
 
-item-some : (whole : Option (Read Range)) (s : List ℕ) (i e lo hi : ℕ) → whole ≡ read (record { lo = lo; hi = hi }) (drop e s) → i < e → e ≤ length s → lo ≤ hi
+item-some : (whole : Option (Read Range)) (s : List ℕ) (i e lo hi : ℕ) → whole ≡ read (record { lo = lo; hi = hi }) (drop e s) → i < e → e ≤ length s
     → ItemAt whole s i (record { end = e; lo = lo; hi = hi })
-item-some whole s i e lo hi q l m h =
+item-some whole s i e lo hi q l m =
     record {
       reads = q ∙ ap (λ (t : Bool). pick t none (read (record { lo = lo; hi = hi }) (drop e s))) (sym (ne-eqb e 0 (λ z. omega arith)));
       forward = λ n. l;
       inside = m;
-      rises = h;
     }
 
 -- ---- a range
@@ -107,7 +106,7 @@ module _ (s : List ℕ) (i : ℕ) (h : i + 2 < length s) where
     range-on l e =
         item-some (range (getD s i 0) (drop (i + 1) s)) s i (i + 3) (getD s i 0) (getD s (i + 2) 0)
         (range-is ∙ passed _ _ (and-both (le-leb (getD s i 0) (getD s (i + 2) 0) l) (sym class-is ∙ e)))
-        (omega arith) (omega arith) l
+        (omega arith) (omega arith)
 
 -- ---- an item
 
@@ -139,7 +138,7 @@ module _ (s : List ℕ) (i : ℕ) (first : Bool) (h : i < length s) (next : ℕ)
   alone : not t ≡ false → range-opens rest ≡ false → ItemAt (item first b rest) s i (record { end = i + 1; lo = b; hi = b })
   alone e q =
       item-some (item first b rest) s i (i + 1) b b (goes-on e ∙ ap (λ (x : Bool). pick x (range b rest) (single b rest)) q)
-      (omega arith) (omega arith) (omega arith)
+      (omega arith) (omega arith)
 
   pub item-alone : not t ≡ false → (next ≡ 45 → ⊥) → ItemAt (item first b rest) s i (record { end = i + 1; lo = b; hi = b })
   item-alone e m =

@@ -1,7 +1,7 @@
 -- Sets of bytes as words: a byte more, a range more, all others.
 use Rattle.octets.proofs.Tests.{not-or}
 use mathlib.Core.Path.{_≡_, refl, sym, ap, ap₂, _∙_}
-use mathlib.Core.Bool.{Bool, true, false, not, _&&_, _||_, or-false, or-assoc, and-true, and-false, or-self, and-comm}
+use mathlib.Core.Bool.{Bool, true, false, not, _&&_, _||_, or-false, and-true, and-false, or-self, and-comm}
 use mathlib.Core.List.{List, [], _∷_}
 use Prim.Native.Nat.{ℕ, zero, suc, _+_, _-_, _*_, _/_, _%_, _^_, _<_, _≤_}
 use native.Mathlib.Nat.{mod-lt, lt-of-le-of-lt}
@@ -15,14 +15,14 @@ use borrow.Author.Tests.{eqb-true, eqb-false, eq-eqb, ne-eqb, ltb-true, ltb-fals
 use Rattle.octets.specs.Bits.{bit, mask}
 use Rattle.octets.specs.Bytes.{within, lower, upper}
 use Rattle.octets.specs.Lists.{pick}
-use Rattle.octets.proofs.Bits.{bit-and, bit-or, bit-shr, bit-shl, bit-shl-low, bit-add, bit-xor, bit-mask, mask-lt, mask-of, shl-one}
+use Rattle.octets.proofs.Bits.{bit-and, bit-or, bit-shr, bit-shl, bit-shl-low, bit-add, bit-xor, bit-zero, bit-mask, mask-bit, mask-lt, mask-of, mask-or, ones-up, ones-down, shl-one}
 use Rattle.machine.specs.Machine.{in-set}
 use Rattle.pattern.specs.Sets.{word, words}
 
 -- ---- masks of 64 bits
 
 bit-of : (f : ℕ → Bool) (k : ℕ) → k < 64 → bit (mask 64 f) k ≡ f k
-bit-of f k h = bit-mask 64 f k ∙ ap (λ (x : Bool). x && f k) (lt-ltb k 64 h)
+bit-of = mask-bit 64
 
 mask-ext : (f g : ℕ → Bool) → ((k : ℕ) → k < 64 → f k ≡ g k) → mask 64 f ≡ mask 64 g
 mask-ext f g e = mask-of 64 (mask 64 f) g (mask-lt 64 f) (λ k h. bit-of f k h ∙ e k h)
@@ -118,61 +118,58 @@ module _ (f : ℕ → Bool) (c : ℕ) (h : c < 256) where
       (by-words (set (words f) (c / 64) with-byte) (λ b. f b || eqb b c) (length-set (words f) (c / 64) with-byte ∙ four f)
       (λ i l. set-word i l (eqb i (c / 64)) refl))
 
--- ---- a range more, byte by byte: the bytes from lo and below k, and k
+-- ---- a range more: of the 64 bytes from a place on, those that are not below lo and not above hi
 
-range-none : (lo b : ℕ) → (leb lo b && ltb b lo) ≡ false
-range-none lo b = go (leb lo b) refl
+none-set : (f : ℕ → Bool) → ((k : ℕ) → k < 64 → f k ≡ false) → 0 ≡ mask 64 f
+none-set f e = mask-of 64 0 f (omega arith) (λ k h. bit-zero k ∙ sym (e k h))
+
+all-set : (f : ℕ → Bool) → ((k : ℕ) → k < 64 → f k ≡ true) → all-bits ≡ mask 64 f
+all-set f e = sym all-mask ∙ mask-ext (λ k. true) f (λ k h. sym (e k h))
+
+module _ (from lo : ℕ) where
+  pub all-from : lo ≤ from → all-bits ≡ mask 64 (λ k. leb lo (from + k))
+  all-from h = all-set (λ k. leb lo (from + k)) (λ k l. le-leb lo (from + k) (omega arith))
+
+  pub some-from : from < lo → all-bits * 2 ^ (lo - from) % 2 ^ 64 ≡ mask 64 (λ k. leb lo (from + k))
+  some-from h = ones-up 64 (lo - from) ∙ mask-ext (leb (lo - from)) (λ k. leb lo (from + k)) (λ k l. at k (leb (lo - from) k) refl)
+    where
+      at : (k : ℕ) (t : Bool) → leb (lo - from) k ≡ t → leb (lo - from) k ≡ leb lo (from + k)
+      at k true e = let l = leb-true (lo - from) k e in e ∙ sym (le-leb lo (from + k) (omega arith))
+      at k false e = let l = leb-false (lo - from) k e in e ∙ sym (lt-leb lo (from + k) (omega arith))
+
+  pub none-from : 64 ≤ lo - from → 0 ≡ mask 64 (λ k. leb lo (from + k))
+  none-from h = none-set (λ k. leb lo (from + k)) (λ k l. lt-leb lo (from + k) (omega arith))
+
+module _ (from hi : ℕ) where
+  pub none-to : hi < from → 0 ≡ mask 64 (λ k. leb (from + k) hi)
+  none-to h = none-set (λ k. leb (from + k) hi) (λ k l. lt-leb (from + k) hi (omega arith))
+
+  pub some-to : from ≤ hi → hi - from < 64 → all-bits / 2 ^ (63 - (hi - from)) ≡ mask 64 (λ k. leb (from + k) hi)
+  some-to h g =
+      ones-down 64 (63 - (hi - from))
+      ∙ mask-ext (λ k. ltb (63 - (hi - from) + k) 64) (λ k. leb (from + k) hi) (λ k l. at k (leb (from + k) hi) refl)
+    where
+      at : (k : ℕ) (t : Bool) → leb (from + k) hi ≡ t → ltb (63 - (hi - from) + k) 64 ≡ leb (from + k) hi
+      at k true e = let l = leb-true (from + k) hi e in lt-ltb (63 - (hi - from) + k) 64 (omega arith) ∙ sym e
+      at k false e = let l = leb-false (from + k) hi e in le-ltb (63 - (hi - from) + k) 64 (omega arith) ∙ sym e
+
+  pub all-to : 64 ≤ hi - from → all-bits ≡ mask 64 (λ k. leb (from + k) hi)
+  all-to h = all-set (λ k. leb (from + k) hi) (λ k l. le-leb (from + k) hi (omega arith))
+
+pub range-words : (ws : List ℕ) (lo hi a b c d : ℕ)
+    → a ≡ mask 64 (λ k. within lo hi (0 + k)) → b ≡ mask 64 (λ k. within lo hi (64 + k))
+    → c ≡ mask 64 (λ k. within lo hi (128 + k)) → d ≡ mask 64 (λ k. within lo hi (192 + k))
+    → (f : ℕ → Bool) → ws ≡ words f
+    → bitOr (getD ws 0 0) a ∷ bitOr (getD ws 1 0) b ∷ bitOr (getD ws 2 0) c ∷ bitOr (getD ws 3 0) d ∷ [] ≡ words (λ x. f x || within lo hi x)
+unfolding words
+range-words ws lo hi a b c d ea eb ec ed f e =
+    rw (e, ea, eb, ec, ed)
+    (ap₂ (λ (x : ℕ) (l : List ℕ). x ∷ l) (with-range 0)
+    (ap₂ (λ (x : ℕ) (l : List ℕ). x ∷ l) (with-range 1)
+    (ap₂ (λ (x y : ℕ). x ∷ y ∷ []) (with-range 2) (with-range 3))))
   where
-    go : (t : Bool) → leb lo b ≡ t → (t && ltb b lo) ≡ false
-    go true e = le-ltb b lo (leb-true lo b e)
-    go false e = refl
-
-range-more : (lo k b : ℕ) → lo ≤ k → ((leb lo b && ltb b k) || eqb b k) ≡ (leb lo b && ltb b (k + 1))
-range-more lo k b h = go (ltb b k) refl (eqb b k) refl
-  where
-    go : (t : Bool) → ltb b k ≡ t → (u : Bool) → eqb b k ≡ u → ((leb lo b && t) || u) ≡ (leb lo b && ltb b (k + 1))
-    go true a true e = let l = ltb-true b k a in let z = eqb-true b k e in absurd (omega arith)
-    go true a false e = let l = ltb-true b k a in rw (lt-ltb b (k + 1) (omega arith)) (or-false (leb lo b && true))
-    go false a true e = let z = eqb-true b k e in rw (lt-ltb b (k + 1) (omega arith), le-leb lo b (omega arith)) refl
-    go false a false e =
-        let l = ltb-false b k a in
-        let n = eqb-false b k e in
-        rw (le-ltb b (k + 1) (omega arith)) (or-false (leb lo b && false))
-
-range-last : (hi b : ℕ) → ltb b (hi + 1) ≡ leb b hi
-range-last hi b = go (leb b hi) refl
-  where
-    go : (t : Bool) → leb b hi ≡ t → ltb b (hi + 1) ≡ leb b hi
-    go true e = let l = leb-true b hi e in lt-ltb b (hi + 1) (omega arith) ∙ sym e
-    go false e = let l = leb-false b hi e in le-ltb b (hi + 1) (omega arith) ∙ sym e
-
--- the bytes of f and those from lo and below k
-pub record Ranged (s₀ s : List ℕ) (lo k : ℕ) : Type 0 where
-  pub low : lo ≤ k
-  pub made : (f : ℕ → Bool) → s₀ ≡ words f → s ≡ words (λ b. f b || (leb lo b && ltb b k))
-
-pub ranged-none : (s : List ℕ) (lo : ℕ) → Ranged s s lo lo
-ranged-none s lo =
-    record {
-      low = omega arith;
-      made = λ f e. e ∙ words-ext f (λ b. f b || (leb lo b && ltb b lo)) (λ b h. sym (ap (λ (x : Bool). f b || x) (range-none lo b) ∙ or-false (f b)));
-    }
-
-pub ranged-more : {s₀ s s′ : List ℕ} {lo k : ℕ} → Ranged s₀ s lo k → ((f : ℕ → Bool) → s ≡ words f → s′ ≡ words (λ b. f b || eqb b k)) → Ranged s₀ s′ lo (k + 1)
-ranged-more {lo = lo} {k = k} r add =
-    record {
-      low = omega (arith, r .low);
-      made = λ f e.
-          add (λ b. f b || (leb lo b && ltb b k)) (r .made f e)
-          ∙ words-ext (λ b. (f b || (leb lo b && ltb b k)) || eqb b k) (λ b. f b || (leb lo b && ltb b (k + 1)))
-          (λ b h. or-assoc (f b) (leb lo b && ltb b k) (eqb b k) ∙ ap (λ (x : Bool). f b || x) (range-more lo k b (r .low)));
-    }
-
-pub ranged-all : (s₀ s : List ℕ) (lo hi k : ℕ) → Ranged s₀ s lo k → k ≡ hi + 1 → (f : ℕ → Bool) → s₀ ≡ words f → s ≡ words (λ b. f b || within lo hi b)
-ranged-all s₀ s lo hi k r q f e =
-    r .made f e
-    ∙ words-ext (λ b. f b || (leb lo b && ltb b k)) (λ b. f b || within lo hi b)
-    (λ b h. ap (λ (x : Bool). f b || (leb lo b && x)) (ap (ltb b) q ∙ range-last hi b))
+    with-range : (i : ℕ) → bitOr (word f i) (mask 64 (λ k. within lo hi (64 * i + k))) ≡ word (λ x. f x || within lo hi x) i
+    with-range i = mask-or 64 (λ k. f (64 * i + k)) (λ k. within lo hi (64 * i + k))
 
 -- ---- all others
 

@@ -40,7 +40,6 @@ pub record ItemAt (whole : Option (Read Range)) (s : List ℕ) (i : ℕ) (r : It
   pub reads : whole ≡ item-read s r
   pub forward : (r .end ≡ 0 → ⊥) → i < r .end
   pub inside : r .end ≤ length s
-  pub rises : r .lo ≤ r .hi
 
 pub record PieceAt (whole : Option (Read (List ℕ))) (s : List ℕ) (i : ℕ) (r : Piece) : Type 0 where
   pub reads : whole ≡ piece-read s r

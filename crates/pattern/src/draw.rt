@@ -2,7 +2,6 @@
 ghost use mathlib.Core.Path.{_≡_};
 ghost use mathlib.Core.Bool.{false};
 ghost use mathlib.Core.List.{List, [], _∷_, _++_};
-ghost use Prim.Native.Nat.{_≤_};
 ghost use Rattle.pattern.specs.Pattern.{Range, byte, dot, list};
 ghost use Rattle.pattern.specs.Drawn.{drawn};
 use crate::sets::add_byte;
@@ -11,7 +10,6 @@ use crate::sets::others;
 
 // A list's set with one range more, where sets are asked for.
 pub(crate) fn widen(build: bool, set: [u64; 4], lo: u8, hi: u8) -> [u64; 4]
-    requires { ⌜ lo ≤ hi ⌝ }
     ensures { λ r. ⌜ ((l : List Range) → set ≡ drawn build (list false l) → r ≡ drawn build (list false (l ++ (record { lo = lo; hi = hi } ∷ [])))) ⌝ }
 {
     if build {

@@ -1,8 +1,9 @@
 // Sets of bytes: four words of 64 bits.
 ghost use mathlib.Core.Path.{_≡_};
 ghost use mathlib.Core.Bool.{Bool, not, _&&_, _||_};
-ghost use Prim.Native.Nat.{ℕ, _≤_};
-ghost use lib.Dec.{eqb};
+ghost use Prim.Native.Nat.{ℕ, _+_};
+ghost use lib.Dec.{eqb, leb};
+ghost use Rattle.octets.specs.Bits.{mask};
 ghost use Rattle.octets.specs.Bytes.{within, lower, upper};
 ghost use Rattle.pattern.specs.Sets.{words};
 
@@ -23,21 +24,50 @@ pub(crate) fn add_byte(set: [u64; 4], c: u8) -> [u64; 4]
     s
 }
 
-// The set with the bytes from lo to hi, added where the set stands: a set by value for each byte costs eight moves.
+// Of the 64 bytes from `from` on, those that are not below lo.
+fn not_below(from: u8, lo: u8) -> u64
+    ensures { λ r. ⌜ r ≡ mask 64 (λ k. leb lo (from + k)) ⌝ }
+{
+    if lo <= from {
+        return ALL;
+    }
+    let k = lo - from;
+    if k < 64 {
+        return ALL << k;
+    }
+    0
+}
+
+// And those that are not above hi.
+fn not_above(from: u8, hi: u8) -> u64
+    ensures { λ r. ⌜ r ≡ mask 64 (λ k. leb (from + k) hi) ⌝ }
+{
+    if hi < from {
+        return 0;
+    }
+    let k = hi - from;
+    if k < 64 {
+        return ALL >> (63 - k);
+    }
+    ALL
+}
+
+// Those from lo to hi.
+fn span(from: u8, lo: u8, hi: u8) -> u64
+    ensures { λ r. ⌜ r ≡ mask 64 (λ k. within lo hi (from + k)) ⌝ }
+{
+    not_below(from, lo) & not_above(from, hi)
+}
+
+// The set with the bytes from lo to hi.
 pub(crate) fn add_range(set: [u64; 4], lo: u8, hi: u8) -> [u64; 4]
-    requires { ⌜ lo ≤ hi ⌝ }
     ensures { λ r. ⌜ ((f : ℕ → Bool) → set ≡ words f → r ≡ words (λ b. f b || within lo hi b)) ⌝ }
 {
-    let mut s = set;
-    let end = hi as usize + 1;
-    let mut k = lo as usize;
-    while k < end {
-        let w = k / 64;
-        let j = k % 64;
-        s[w] = s[w] | 1 << j;
-        k += 1;
-    }
-    s
+    let a = set[0] | span(0, lo, hi);
+    let b = set[1] | span(64, lo, hi);
+    let c = set[2] | span(128, lo, hi);
+    let d = set[3] | span(192, lo, hi);
+    [a, b, c, d]
 }
 
 // The bytes that are not in the set. "`.` and a `^` list never meet byte 0."
