@@ -87,11 +87,14 @@ static size_t element_at(const uint8_t *s, size_t n, size_t i, int first, uint64
     return i + 1;
 }
 
+/* Where the elements of a string that is not empty stop: at a last `$`, or at the end. */
+static inline size_t stop_at(const uint8_t *s, size_t n) { return s[n - 1] == '$' ? n - 1 : n; }
+
 static inline int is_pattern(const uint8_t *s, size_t n) {
     if (n == 0) return 0;
-    size_t i = s[0] == '^';
+    size_t i = s[0] == '^', stop = stop_at(s, n);
     int count = 0;
-    while (i < n && !(s[i] == '$' && i + 1 == n)) {
+    while (i < stop) {
         i = element_at(s, n, i, count == 0, NULL);
         if (i == 0) return 0;
         if (peek(s, n, i) == '*') i++;
@@ -103,13 +106,10 @@ static inline int is_pattern(const uint8_t *s, size_t n) {
 /* Whether the string is a pattern; if so, its machine. */
 static inline int prepare(struct machine *m, const uint8_t *s, size_t n, int on_names) {
     if (n == 0) return 0;
-    int left = s[0] == '^', right = 0, free = 1, at = 0;
+    int left = s[0] == '^', free = 1, at = 0;
     uint64_t run = 0, lead = 0;
-    for (size_t i = left ? 1 : 0; i < n; at++) {
-        if (s[i] == '$' && i + 1 == n) {
-            right = 1;
-            break;
-        }
+    size_t i = left ? 1 : 0, stop = stop_at(s, n);
+    for (; i < stop; at++) {
         if (at == POSITIONS) return 0;
         uint64_t *set = m->sets[at], here = (uint64_t)1 << at;
         set[0] = set[1] = set[2] = set[3] = 0;
@@ -123,6 +123,7 @@ static inline int prepare(struct machine *m, const uint8_t *s, size_t n, int on_
         run = repeats ? run | here : here;
         free &= repeats;
     }
+    int right = i < n;
     m->start = lead, m->inner = left ? 0 : lead;
     m->ends = run, m->stops = right ? 0 : run;
     m->whole = free, m->head = free && !right, m->tail = free && !left, m->middle = free && !left && !right;

@@ -1,22 +1,22 @@
 -- The elements by place: the last `$`, an atom and its `*`, the end.
-use mathlib.Core.Path.{_≡_, refl, sym, ap, _∙_, subst⁻¹}
-use mathlib.Core.Bool.{Bool, true, false, _&&_}
+use mathlib.Core.Path.{_≡_, refl, sym, ap, ap₂, _∙_, subst⁻¹}
+use mathlib.Core.Bool.{Bool, true, false, _&&_, and-false}
 use mathlib.Core.Option.{Option, none, some}
 use mathlib.Core.List.{List, [], _∷_}
-use Prim.Native.Nat.{ℕ, suc, _+_, _<_, _≤_}
+use Prim.Native.Nat.{ℕ, suc, _+_, _-_, _<_, _≤_}
 use native.Mathlib.Nat.{add-zero, zero-add}
 use native.Mathlib.Omega.{arith}
-use lib.Dec.{eqb, leb}
+use lib.Dec.{eqb, leb, ltb}
 use lib.ListN.{length, getD, drop, drop-of-length-le}
 use lib.Seq.{drop-drop}
-use borrow.Author.Tests.{eqb-true, lt-leb}
+use borrow.Author.Tests.{eqb-true, eq-eqb, lt-leb, ltb-true, ltb-false}
 use Rattle.octets.specs.Lists.{pick, peek}
 use Rattle.octets.specs.Option.{_>>=_, holds}
 use Rattle.octets.proofs.Tests.{either}
 use Rattle.machine.proofs.Places.{drop-at, empty-at}
 use Rattle.pattern.specs.Answers.{was-read, is-pattern}
 use Rattle.pattern.specs.Pattern.{Atom, Elem, Pattern}
-use Rattle.pattern.specs.Places.{map-got, body-of, PieceAt}
+use Rattle.pattern.specs.Places.{map-got, body-of, start-of, stop-of, PieceAt}
 use Rattle.pattern.specs.Prepared.{starred, atom-of}
 use Rattle.pattern.specs.Reading.{Read, atom, elem, Body, read-pattern}
 use Rattle.pattern.specs.Drawn.{drawn}
@@ -49,6 +49,44 @@ behind-at s e next j n q = q ∙ ap (λ (k : ℕ). pick (eqb k 42) (e + 1) e) n
 pub behind-drop : (t : Bool) (s : List ℕ) (e : ℕ) → pick t (drop 1 (drop e s)) (drop e s) ≡ drop (pick t (e + 1) e) s
 behind-drop true s e = drop-drop 1 e s
 behind-drop false s e = refl
+
+-- ---- where the elements stop
+
+-- whether the anchor `$` stands at i
+abbrev pub anchor-at : List ℕ → ℕ → Bool
+anchor-at s i = eqb (getD s i 0) 36 && eqb (i + 1) (length s)
+
+module _ (s : List ℕ) (i stop : ℕ) (q : stop ≡ stop-of s) where
+  abbrev ends : Bool
+  ends = eqb (getD s (length s - 1) 0) 36
+
+  pub stop-inside : i < stop → i < length s
+  stop-inside h =
+      let l : stop ≤ length s = subst⁻¹ (λ (n : ℕ). n ≤ length s) q (either (λ (n : ℕ). n ≤ length s) ends (length s - 1) (length s) (omega arith) (omega arith)) in
+      omega arith
+
+  stop-by : (t : Bool) → ends ≡ t → stop ≡ pick t (length s - 1) (length s)
+  stop-by t e = q ∙ ap (λ (x : Bool). pick x (length s - 1) (length s)) e
+
+  pub stop-before : i < stop → anchor-at s i ≡ false
+  stop-before h = go ends refl (eqb (i + 1) (length s)) refl
+    where
+      go : (t : Bool) → ends ≡ t → (u : Bool) → eqb (i + 1) (length s) ≡ u → (eqb (getD s i 0) 36 && u) ≡ false
+      go t e false v = and-false (eqb (getD s i 0) 36)
+      go true e true v = let z = eqb-true (i + 1) (length s) v in absurd (omega (arith, stop-by true e))
+      go false e true v =
+          let z = eqb-true (i + 1) (length s) v in
+          let w : i ≡ length s - 1 = omega arith in
+          ap (λ (n : ℕ). eqb (getD s n 0) 36 && true) w ∙ ap (λ (x : Bool). x && true) e
+
+  pub stop-here : stop ≤ i → i < length s → anchor-at s i ≡ true
+  stop-here h l = go ends refl
+    where
+      go : (t : Bool) → ends ≡ t → anchor-at s i ≡ true
+      go true e =
+          let w : i ≡ length s - 1 = omega (arith, stop-by true e) in
+          ap₂ (λ (x y : Bool). x && y) (ap (λ (n : ℕ). eqb (getD s n 0) 36) w ∙ e) (eq-eqb (i + 1) (length s) (omega arith))
+      go false e = absurd (omega (arith, stop-by false e))
 
 -- ---- an element's parts
 
@@ -86,16 +124,16 @@ module _ (s : List ℕ) (i : ℕ) (first : Bool) (h : i < length s) where
   abbrev going : Option (Read Atom) → Option Body
   going o = o >>= (λ a. with-elem (elem (eqb (peek (a .rest)) 42) (a .got)) (body-of false (pick (eqb (peek (a .rest)) 42) (drop 1 (a .rest)) (a .rest))))
 
-  here-is : (t : Bool) → (eqb b 36 && eqb (i + 1) (length s)) ≡ t → body-of first (drop i s) ≡ pick t (some (record { parts = []; anchored = true })) (going (atom first b rest))
+  here-is : (t : Bool) → anchor-at s i ≡ t → body-of first (drop i s) ≡ pick t (some (record { parts = []; anchored = true })) (going (atom first b rest))
   here-is t e =
       ap (body-of first) (drop-at s i h) ∙ body-next first b rest
       ∙ ap (λ (x : Bool). pick x (some (record { parts = []; anchored = true })) (going (atom first b rest)))
       (ap (λ (x : Bool). eqb b 36 && x) (empty-at s (i + 1) (omega arith)) ∙ e)
 
-  pub body-last : (eqb b 36 && eqb (i + 1) (length s)) ≡ true → body-of first (drop i s) ≡ some (record { parts = []; anchored = true })
+  body-last : anchor-at s i ≡ true → body-of first (drop i s) ≡ some (record { parts = []; anchored = true })
   body-last e = here-is true e
 
-  module _ (build : Bool) (r : Piece) (a : PieceAt (map-got (drawn build) (atom first b rest)) s i r) (e : (eqb b 36 && eqb (i + 1) (length s)) ≡ false) where
+  module _ (build : Bool) (r : Piece) (a : PieceAt (map-got (drawn build) (atom first b rest)) s i r) (e : anchor-at s i ≡ false) where
     pub body-lost : r .end ≡ 0 → body-of first (drop i s) ≡ none
     body-lost z = here-is false e ∙ ap going (map-none (drawn build) (atom first b rest) (piece-lost a z))
 
@@ -111,11 +149,16 @@ module _ (s : List ℕ) (i : ℕ) (first : Bool) (h : i < length s) where
               ∙ ap (λ (l : List ℕ). with-elem (elem (eqb (peek (drop (r .end) s)) 42) (g .value)) (body-of false l)) (behind-drop (eqb (peek (drop (r .end) s)) 42) s (r .end));
         }
 
--- ---- the whole pattern
+-- nothing is left there but the anchor
+pub body-stop : (s : List ℕ) (i : ℕ) (first : Bool) (stop : ℕ) → stop ≡ stop-of s → stop ≤ i
+    → body-of first (drop i s) ≡ some (record { parts = []; anchored = ltb i (length s) })
+body-stop s i first stop q h = go (ltb i (length s)) refl
+  where
+    go : (t : Bool) → ltb i (length s) ≡ t → body-of first (drop i s) ≡ some (record { parts = []; anchored = t })
+    go true e = let l = ltb-true i (length s) e in body-last s i first l (stop-here s i stop q h l)
+    go false e = body-end s i first (ltb-false i (length s) e)
 
--- from behind the leading `^`
-abbrev pub start-of : List ℕ → ℕ
-start-of s = pick (eqb (peek s) 94) 1 0
+-- ---- the whole pattern
 
 abbrev pub finished : Bool → Option Body → Option Pattern
 finished start o = o >>= (λ b. holds (leb (length (b .parts)) 60) >>= (λ x. some (record { at-start = start; elems = b .parts; at-end = b .anchored })))
@@ -179,25 +222,21 @@ counted-more : (x : Elem) (n : ℕ) (o : Option Body) → counted n (with-elem x
 counted-more x n none = refl
 counted-more x n (some b) = let z : n + suc (length (b .parts)) ≡ n + 1 + length (b .parts) = omega arith in ap (λ (k : ℕ). leb k 60) z
 
-pub count-done : (s : List ℕ) (i : ℕ) (first : Bool) (n : ℕ) → Counted s i first n → length s ≤ i → leb n 60 ≡ is-pattern s
-count-done s i first n c h = ap (λ (k : ℕ). leb k 60) (sym (add-zero n)) ∙ sym (ap (counted n) (body-end s i first h)) ∙ c .left
+module _ (s : List ℕ) (i : ℕ) (first : Bool) (n : ℕ) (c : Counted s i first n) (stop : ℕ) (q : stop ≡ stop-of s) where
+  pub count-done : stop ≤ i → leb n 60 ≡ is-pattern s
+  count-done h = ap (λ (k : ℕ). leb k 60) (sym (add-zero n)) ∙ sym (ap (counted n) (body-stop s i first stop q h)) ∙ c .left
 
-module _ (s : List ℕ) (i : ℕ) (first : Bool) (n : ℕ) (c : Counted s i first n) (h : i < length s) where
-  pub count-last : (t : Bool) → t ≡ (eqb (getD s i 0) 36 && eqb (i + 1) (length s)) → t ≡ true → leb n 60 ≡ is-pattern s
-  count-last t q e = ap (λ (k : ℕ). leb k 60) (sym (add-zero n)) ∙ sym (ap (counted n) (body-last s i first h (sym q ∙ e))) ∙ c .left
-
-  module _ (build : Bool) (r : Piece) (a : PieceAt (map-got (drawn build) (atom first (getD s i 0) (drop (i + 1) s))) s i r) (t : Bool)
-      (k : t ≡ (eqb (getD s i 0) 36 && eqb (i + 1) (length s))) (e : t ≡ false) where
+  module _ (h : i < stop) (build : Bool) (r : Piece) (a : PieceAt (map-got (drawn build) (atom first (getD s i 0) (drop (i + 1) s))) s i r) where
     pub count-lost : r .end ≡ 0 → false ≡ is-pattern s
-    count-lost z = sym (ap (counted n) (body-lost s i first h build r a (sym k ∙ e) z)) ∙ c .left
+    count-lost z = sym (ap (counted n) (body-lost s i first (stop-inside s i stop q h) build r a (stop-before s i stop q h) z)) ∙ c .left
 
     pub count-more : (j : ℕ) → (r .end ≡ 0 → ⊥) → j ≡ pick (eqb (peek (drop (r .end) s)) 42) (r .end + 1) (r .end) → Counted s j false (n + 1)
-    count-more j m q =
-        let g = body-more s i first h build r a (sym k ∙ e) m in
+    count-more j m w =
+        let g = body-more s i first (stop-inside s i stop q h) build r a (stop-before s i stop q h) m in
         let x = elem (eqb (peek (drop (r .end) s)) 42) (g .value) in
         let f : i < r .end = a .forward m in
         let l : n ≤ i = c .few in
-        subst⁻¹ (λ (k : ℕ). Counted s k false (n + 1)) q
+        subst⁻¹ (λ (k : ℕ). Counted s k false (n + 1)) w
         (record {
           left =
               sym (counted-more (elem (eqb (peek (drop (r .end) s)) 42) (g .value)) n (body-of false (drop (pick (eqb (peek (drop (r .end) s)) 42) (r .end + 1) (r .end)) s)))

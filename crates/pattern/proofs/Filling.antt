@@ -6,7 +6,7 @@ use mathlib.Core.List.{List, [], _∷_, _++_}
 use Prim.Native.Nat.{ℕ, suc, _+_, _<_, _≤_}
 use native.Mathlib.Nat.{zero-add}
 use native.Mathlib.Omega.{arith}
-use lib.Dec.{eqb, leb}
+use lib.Dec.{eqb, leb, ltb}
 use lib.ListN.{length, getD, drop}
 use lib.Seq.{sets, sets-eq, length-sets}
 use borrow.Author.Tests.{leb-true, not-true, not-false}
@@ -15,13 +15,13 @@ use Rattle.octets.specs.Option.{_>>=_, holds}
 use Rattle.machine.specs.declared.Shape.{Shape}
 use Rattle.pattern.specs.Answers.{was-read, is-pattern}
 use Rattle.pattern.specs.Pattern.{Atom, Elem, Pattern}
-use Rattle.pattern.specs.Places.{map-got, body-of, PieceAt}
+use Rattle.pattern.specs.Places.{map-got, body-of, start-of, stop-of, PieceAt}
 use Rattle.pattern.specs.Prepared.{starred, no-marks, mark, marks, sets-of, befores, sets-after, befores-after, marks-of, ends-anchored, shape-by, no-shape, shape-of, read-front, FilledFor, Prepared, Ready}
 use Rattle.pattern.specs.Reading.{atom, elem, Body, read-pattern}
 use Rattle.pattern.specs.Drawn.{drawn}
 use Rattle.pattern.specs.declared.edition1.Marks.{Marks}
 use Rattle.pattern.specs.declared.reader.Piece.{Piece}
-use Rattle.pattern.proofs.Elements.{with-elem, Step, body-end, body-last, body-more, start-of, finished, read-is, count-empty, starred-elem}
+use Rattle.pattern.proofs.Elements.{with-elem, Step, anchor-at, body-stop, body-more, finished, read-is, count-empty, starred-elem}
 use Rattle.pattern.proofs.Front.{Stands, front-parts}
 use Rattle.pattern.proofs.Positions.{at-bit, befores-length}
 
@@ -113,14 +113,11 @@ module _ (s : List ℕ) (w : Whole s) (i : ℕ) (first : Bool) (m : Marks) (f : 
           room-before = lb;
         })
 
-    pub fill-end : length s ≤ i → FilledFor fold (read-pattern s) m false old-sets ss old-before bs
-    fill-end h = done false (body-end s i first h)
+    pub fill-stop : (stop : ℕ) → stop ≡ stop-of s → stop ≤ i → FilledFor fold (read-pattern s) m (ltb i (length s)) old-sets ss old-before bs
+    fill-stop stop q h = done (ltb i (length s)) (body-stop s i first stop q h)
 
-    pub fill-last : i < length s → (eqb (getD s i 0) 36 && eqb (i + 1) (length s)) ≡ true → FilledFor fold (read-pattern s) m true old-sets ss old-before bs
-    fill-last h e = done true (body-last s i first h e)
-
-  module _ (h : i < length s) (r : Piece) (a : PieceAt (map-got (drawn true) (atom first (getD s i 0) (drop (i + 1) s))) s i r)
-      (e : (eqb (getD s i 0) 36 && eqb (i + 1) (length s)) ≡ false) (n : r .end ≡ 0 → ⊥) where
+  module _ (h : i < length s) (e : anchor-at s i ≡ false) (r : Piece) (a : PieceAt (map-got (drawn true) (atom first (getD s i 0) (drop (i + 1) s))) s i r)
+      (n : r .end ≡ 0 → ⊥) where
     abbrev repeats : Bool
     repeats = eqb (peek (drop (r .end) s)) 42
 

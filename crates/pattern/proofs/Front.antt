@@ -7,8 +7,8 @@ use Prim.Native.Nat.{ℕ, zero, suc, _+_, _<_, _≤_}
 use native.Mathlib.Nat.{not-suc-le-zero}
 use native.Mathlib.Numerals.{add-one}
 use native.Mathlib.Omega.{arith}
-use lib.Dec.{eqb}
-use lib.ListN.{length, getD, drop, drop-of-length-le, set}
+use lib.Dec.{eqb, ltb}
+use lib.ListN.{length, getD, drop, set}
 use lib.Seq.{sets}
 use Rattle.octets.specs.Lists.{pick, peek, empty}
 use Rattle.octets.specs.Option.{_>>=_}
@@ -16,14 +16,14 @@ use Rattle.octets.proofs.Tests.{either}
 use Rattle.machine.proofs.Places.{drop-at, empty-at}
 use Rattle.pattern.specs.Drawn.{drawn}
 use Rattle.pattern.specs.Pattern.{Atom, Elem}
-use Rattle.pattern.specs.Places.{map-got, body-of, front-of, PieceAt}
+use Rattle.pattern.specs.Places.{map-got, body-of, front-of, start-of, stop-of, PieceAt}
 use Rattle.pattern.specs.Prepared.{starred, atom-of, no-marks, mark, before-at, set-as, sets-of, befores, read-front}
 use Rattle.pattern.specs.Reading.{Read, atom, elem, Body, body, front-from, front}
 use Rattle.pattern.specs.declared.edition1.Marks.{Marks}
 use Rattle.pattern.specs.declared.reader.Piece.{Piece}
 use Rattle.pattern.proofs.Atoms.{piece-found, piece-lost, map-none, map-some}
 use Rattle.pattern.proofs.Countdown.{Within, drop-le, atom-within}
-use Rattle.pattern.proofs.Elements.{start-of, behind-drop, starred-elem, atom-elem}
+use Rattle.pattern.proofs.Elements.{anchor-at, behind-drop, body-end, body-stop, starred-elem, atom-elem}
 
 -- ---- the number only counts down
 
@@ -88,10 +88,6 @@ front-parts first s b e = parts-by (suc (length s)) first s b e
 
 -- ---- by place
 
-front-end : (s : List ℕ) (i : ℕ) (first : Bool) → length s ≤ i → front-of first (drop i s) ≡ []
-unfolding front
-front-end s i first h = ap (front-of first) (drop-of-length-le s h)
-
 -- the element at i, and those behind it
 record Ahead (s : List ℕ) (i : ℕ) (first : Bool) (end : ℕ) (set : List ℕ) : Type 0 where
   value : Atom
@@ -105,13 +101,13 @@ module _ (s : List ℕ) (i : ℕ) (first : Bool) (h : i < length s) where
   abbrev rest : List ℕ
   rest = drop (i + 1) s
 
-  here-is : (t : Bool) → (eqb b 36 && eqb (i + 1) (length s)) ≡ t → front-of first (drop i s) ≡ pick t [] (front-from (λ u. front-of false u) (atom first b rest))
+  here-is : (t : Bool) → anchor-at s i ≡ t → front-of first (drop i s) ≡ pick t [] (front-from (λ u. front-of false u) (atom first b rest))
   here-is t e =
       ap (front-of first) (drop-at s i h) ∙ front-next first b rest
       ∙ ap (λ (x : Bool). pick x [] (front-from (λ u. front-of false u) (atom first b rest)))
       (ap (λ (x : Bool). eqb b 36 && x) (empty-at s (i + 1) (omega arith)) ∙ e)
 
-  module _ (r : Piece) (a : PieceAt (map-got (drawn true) (atom first b rest)) s i r) (e : (eqb b 36 && eqb (i + 1) (length s)) ≡ false) where
+  module _ (r : Piece) (a : PieceAt (map-got (drawn true) (atom first b rest)) s i r) (e : anchor-at s i ≡ false) where
     front-lost : r .end ≡ 0 → front-of first (drop i s) ≡ []
     front-lost z = here-is false e ∙ ap (front-from (λ u. front-of false u)) (map-none (drawn true) (atom first b rest) (piece-lost a z))
 
@@ -153,7 +149,7 @@ module _ (fold : Bool) (s : List ℕ) (old-sets : List (List ℕ)) (old-before :
 
   pub stands-empty : length s ≡ 0 → Stands old-sets old-before
   stands-empty e =
-      let z : read-front s ≡ [] = front-end s (start-of s) true (omega (arith, e)) in
+      let z : read-front s ≡ [] = front-parts true (drop (start-of s) s) (record { parts = []; anchored = false }) (body-end s (start-of s) true (omega (arith, e))) in
       record {
         sets-are = ap (λ (l : List Elem). sets old-sets 0 (sets-of fold l)) (sym z);
         before-are = ap (λ (l : List Elem). sets old-before 0 (befores no-marks l)) (sym z);
@@ -171,8 +167,8 @@ module _ (fold : Bool) (s : List ℕ) (old-sets : List (List ℕ)) (old-before :
       before-are = ap (λ (l : List Elem). sets bs (m .at) (befores m l)) (sym z) ∙ f .before-on;
     }
 
-    pub stands-end : length s ≤ i → Stands ss bs
-    stands-end h = nothing-left (front-end s i first h)
+    pub stands-stop : (stop : ℕ) → stop ≡ stop-of s → stop ≤ i → Stands ss bs
+    stands-stop stop q h = nothing-left (front-parts first (drop i s) (record { parts = []; anchored = ltb i (length s) }) (body-stop s i first stop q h))
 
     pub stands-many : m .at ≡ 60 → length ss ≡ 60 → length bs ≡ 60 → Stands ss bs
     stands-many full ls lb = record {
@@ -180,12 +176,8 @@ module _ (fold : Bool) (s : List ℕ) (old-sets : List (List ℕ)) (old-before :
       before-are = sym (sets-past (befores m (front-of first (drop i s))) bs (m .at) (omega (arith, full, lb))) ∙ f .before-on;
     }
 
-    module _ (h : i < length s) where
-      pub stands-last : (eqb (getD s i 0) 36 && eqb (i + 1) (length s)) ≡ true → Stands ss bs
-      stands-last e = nothing-left (here-is s i first h true e)
-
-      module _ (r : Piece) (a : PieceAt (map-got (drawn true) (atom first (getD s i 0) (drop (i + 1) s))) s i r)
-          (e : (eqb (getD s i 0) 36 && eqb (i + 1) (length s)) ≡ false) where
+    module _ (h : i < length s) (e : anchor-at s i ≡ false) where
+      module _ (r : Piece) (a : PieceAt (map-got (drawn true) (atom first (getD s i 0) (drop (i + 1) s))) s i r) where
         pub stands-lost : r .end ≡ 0 → Stands ss bs
         stands-lost z = nothing-left (front-lost s i first h r a e z)
 

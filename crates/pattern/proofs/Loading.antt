@@ -1,27 +1,27 @@
 -- Reading into the lent places in one go: what is read is counted and stored at once, for a string that may turn out to be no pattern.
 use mathlib.Core.Path.{_≡_, refl, sym, ap, _∙_, subst⁻¹}
-use mathlib.Core.Bool.{Bool, true, false, not, _&&_, _||_, true≢false}
+use mathlib.Core.Bool.{Bool, true, false, not, _||_, true≢false}
 use mathlib.Core.Option.{Option, none, some}
 use mathlib.Core.List.{List, [], _∷_}
 use Prim.Native.Nat.{ℕ, _+_, _<_, _≤_}
 use native.Mathlib.Omega.{arith}
-use lib.Dec.{eqb}
+use lib.Dec.{eqb, ltb}
 use lib.ListN.{length, getD, drop, set, length-set}
-use borrow.Author.Tests.{le-leb, ne-eqb}
+use borrow.Author.Tests.{le-leb, eq-eqb, ne-eqb}
 use Rattle.octets.specs.Lists.{pick, peek}
 use Rattle.machine.specs.declared.Shape.{Shape}
 use Rattle.pattern.specs.Answers.{was-read, is-pattern}
 use Rattle.pattern.specs.Pattern.{Atom, Elem, Pattern}
-use Rattle.pattern.specs.Places.{map-got, PieceAt}
+use Rattle.pattern.specs.Places.{map-got, start-of, stop-of, PieceAt}
 use Rattle.pattern.specs.Prepared.{no-marks, mark, marks, before-at, set-as, shape-by, no-shape, takes-part, shape-of, FilledFor, Loaded}
 use Rattle.pattern.specs.Reading.{atom, read-pattern}
 use Rattle.pattern.specs.Drawn.{drawn}
 use Rattle.pattern.specs.declared.edition1.Marks.{Marks}
 use Rattle.pattern.specs.declared.reader.Piece.{Piece}
-use Rattle.pattern.proofs.Elements.{start-of, Counted, count-empty, count-start, count-last, count-lost, count-more, count-many, count-done}
+use Rattle.pattern.proofs.Elements.{anchor-at, stop-inside, stop-before, Counted, count-empty, count-start, count-lost, count-more, count-many, count-done}
 use Rattle.pattern.proofs.Positions.{at-bit}
-use Rattle.pattern.proofs.Front.{Stands, Storing, stands-empty, stands-end, stands-last, stands-lost, stands-many, store-start, store-more}
-use Rattle.pattern.proofs.Filling.{Fills, fill-start, fill-end, fill-last, fill-more, prepare-refused, prepare-on, prepared-ready}
+use Rattle.pattern.proofs.Front.{Stands, Storing, stands-empty, stands-stop, stands-lost, stands-many, store-start, store-more}
+use Rattle.pattern.proofs.Filling.{Fills, fill-start, fill-stop, fill-more, prepare-refused, prepare-on, prepared-ready}
 
 module _ (fold : Bool) (s : List ℕ) (old-sets : List (List ℕ)) (old-before : List ℕ) where
   -- the elements before i are stored, and those from i on decide whether there is a pattern
@@ -67,25 +67,24 @@ module _ (fold : Bool) (s : List ℕ) (old-sets : List (List ℕ)) (old-before :
         })
 
     module _ (i : ℕ) (first : Bool) (m : Marks) (ss : List (List ℕ)) (bs : List ℕ) (l : Loading i first m ss bs) where
-      pub load-end : length s ≤ i → (h : Shape) (next : ℕ) → next ≡ peek s → h ≡ shape-by m (eqb next 94) false → Loaded fold s h old-sets ss old-before bs
-      load-end k h next q z =
-          let y : is-pattern s ≡ true = sym (count-done s i first (m .at) (l .counts) k) ∙ le-leb (m .at) 60 (l .low) in
-          let f = l .fills y in
-          let st = stands-end fold s old-sets old-before i first m ss bs (l .stores) k in
-          load-filled h next m false ss bs y q (fill-end s (f .0) i first m (f .1) fold old-sets ss old-before bs st (l .room-sets) (l .room-before) k) z st
-
-      module _ (k : i < length s) (t : Bool) (et : t ≡ (eqb (getD s i 0) 36 && eqb (i + 1) (length s))) where
-        pub load-last : t ≡ true → (h : Shape) (next : ℕ) → next ≡ peek s → h ≡ shape-by m (eqb next 94) true → Loaded fold s h old-sets ss old-before bs
-        load-last e h next q z =
-            let y : is-pattern s ≡ true = sym (count-last s i first (m .at) (l .counts) k t et e) ∙ le-leb (m .at) 60 (l .low) in
+      module _ (stop : ℕ) (w : stop ≡ stop-of s) where
+        pub load-end : stop ≤ i → (h : Shape) (next : ℕ) → next ≡ peek s → h ≡ shape-by m (eqb next 94) (ltb i (length s)) → Loaded fold s h old-sets ss old-before bs
+        load-end k h next q z =
+            let y : is-pattern s ≡ true = sym (count-done s i first (m .at) (l .counts) stop w k) ∙ le-leb (m .at) 60 (l .low) in
             let f = l .fills y in
-            let st = stands-last fold s old-sets old-before i first m ss bs (l .stores) k (sym et ∙ e) in
-            load-filled h next m true ss bs y q (fill-last s (f .0) i first m (f .1) fold old-sets ss old-before bs st (l .room-sets) (l .room-before) k (sym et ∙ e)) z st
+            let st = stands-stop fold s old-sets old-before i first m ss bs (l .stores) stop w k in
+            load-filled h next m (ltb i (length s)) ss bs y q (fill-stop s (f .0) i first m (f .1) fold old-sets ss old-before bs st (l .room-sets) (l .room-before) stop w k) z st
 
-        module _ (r : Piece) (a : PieceAt (map-got (drawn true) (atom first (getD s i 0) (drop (i + 1) s))) s i r) (e : t ≡ false) where
+        module _ (k : i < stop) (r : Piece) (a : PieceAt (map-got (drawn true) (atom first (getD s i 0) (drop (i + 1) s))) s i r) where
+          inside : i < length s
+          inside = stop-inside s i stop w k
+
+          no-anchor : anchor-at s i ≡ false
+          no-anchor = stop-before s i stop w k
+
           pub load-lost : r .end ≡ 0 → (h : Shape) → h ≡ no-shape → Loaded fold s h old-sets ss old-before bs
-          load-lost z h q = load-refused h ss bs (count-lost s i first (m .at) (l .counts) k true r a t et e z) q (l .room-sets) (l .room-before)
-              (stands-lost fold s old-sets old-before i first m ss bs (l .stores) k r a (sym et ∙ e) z)
+          load-lost z h q = load-refused h ss bs (count-lost s i first (m .at) (l .counts) stop w k true r a z) q (l .room-sets) (l .room-before)
+              (stands-lost fold s old-sets old-before i first m ss bs (l .stores) inside no-anchor r a z)
 
           module _ (n : r .end ≡ 0 → ⊥) where
             abbrev repeats : Bool
@@ -95,7 +94,7 @@ module _ (fold : Bool) (s : List ℕ) (old-sets : List (List ℕ)) (old-before :
             j = pick repeats (r .end + 1) (r .end)
 
             counts-on : (i′ : ℕ) → i′ ≡ j → Counted s i′ false (m .at + 1)
-            counts-on i′ q = count-more s i first (m .at) (l .counts) k true r a t et e i′ n q
+            counts-on i′ q = count-more s i first (m .at) (l .counts) stop w k true r a i′ n q
 
             pub load-many : m .at ≡ 60 → (h : Shape) → h ≡ no-shape → Loaded fold s h old-sets ss old-before bs
             load-many full h q = load-refused h ss bs (count-many s j false (m .at + 1) (counts-on j refl) (omega arith)) q (l .room-sets) (l .room-before)
@@ -104,14 +103,14 @@ module _ (fold : Bool) (s : List ℕ) (old-sets : List (List ℕ)) (old-before :
             pub load-room : (m .at ≡ 60 → ⊥) → m .at < 60
             load-room free = let w : m .at ≤ 60 = l .low in omega arith
 
-            pub load-more : (m .at ≡ 60 → ⊥) → (i′ : ℕ) (m′ : Marks) (u : List ℕ) (v : ℕ) (b : Bool) → ((x : Atom) → r .set ≡ drawn true x → u ≡ set-as fold x) → b ≡ repeats
+            load-more : (m .at ≡ 60 → ⊥) → (i′ : ℕ) (m′ : Marks) (u : List ℕ) (v : ℕ) (b : Bool) → ((x : Atom) → r .set ≡ drawn true x → u ≡ set-as fold x) → b ≡ repeats
                 → i′ ≡ j → m′ ≡ mark m b → v ≡ before-at m b → Loading i′ false m′ (set ss (m .at) u) (set bs (m .at) v)
             load-more free i′ m′ u v b eu eb ei em ev =
                 let one : m′ .at ≡ m .at + 1 = ap (λ (x : Marks). x .at) em in
                 record {
                   counts = counts-at i′ ei (m′ .at) one;
-                  fills = λ y. let f = l .fills y in (f .0, fill-more s (f .0) i first m (f .1) k r a (sym et ∙ e) n i′ m′ b eb ei em);
-                  stores = store-more fold s old-sets old-before i first m ss bs (l .stores) k r a (sym et ∙ e) n i′ m′ u v b eu eb ei em ev;
+                  fills = λ y. let f = l .fills y in (f .0, fill-more s (f .0) i first m (f .1) inside no-anchor r a n i′ m′ b eb ei em);
+                  stores = store-more fold s old-sets old-before i first m ss bs (l .stores) inside no-anchor r a n i′ m′ u v b eu eb ei em ev;
                   low = omega (arith, load-room free);
                   room-sets = length-set ss (m .at) u ∙ l .room-sets;
                   room-before = length-set bs (m .at) v ∙ l .room-before;
@@ -119,6 +118,19 @@ module _ (fold : Bool) (s : List ℕ) (old-sets : List (List ℕ)) (old-before :
               where
                 counts-at : (i′ : ℕ) → i′ ≡ j → (w : ℕ) → w ≡ m .at + 1 → Counted s i′ false w
                 counts-at i′ ei w q = rw q (counts-on i′ ei)
+
+            -- the element stands once, or a `*` follows it
+            module _ (free : m .at ≡ 60 → ⊥) (u : List ℕ) (eu : (x : Atom) → r .set ≡ drawn true x → u ≡ set-as fold x) (next : ℕ) (f : next ≡ peek (drop (r .end) s))
+                (m′ : Marks) (v : ℕ) where
+              pub load-starred : next ≡ 42 → m′ ≡ mark m true → v ≡ before-at m true → Loading (r .end + 1) false m′ (set ss (m .at) u) (set bs (m .at) v)
+              load-starred z em ev =
+                  let e : true ≡ repeats = sym (eq-eqb (peek (drop (r .end) s)) 42 (sym f ∙ z)) in
+                  load-more free (r .end + 1) m′ u v true eu e (ap (λ (t : Bool). pick t (r .end + 1) (r .end)) e) em ev
+
+              pub load-once : (next ≡ 42 → ⊥) → m′ ≡ mark m false → v ≡ before-at m false → Loading (r .end) false m′ (set ss (m .at) u) (set bs (m .at) v)
+              load-once z em ev =
+                  let e : false ≡ repeats = sym (ne-eqb (peek (drop (r .end) s)) 42 (λ y. z (f ∙ y))) in
+                  load-more free (r .end) m′ u v false eu e (ap (λ (t : Bool). pick t (r .end + 1) (r .end)) e) em ev
 
 -- ---- what the machine tells
 

@@ -3,10 +3,10 @@ use mathlib.Core.Bool.{Bool}
 use mathlib.Core.Option.{Option, none, some}
 use mathlib.Core.Path.{_≡_}
 use mathlib.Core.List.{List}
-use Prim.Native.Nat.{ℕ, suc, _≤_, _<_}
+use Prim.Native.Nat.{ℕ, suc, _-_, _≤_, _<_}
 use lib.Dec.{eqb}
-use lib.ListN.{length, drop}
-use Rattle.octets.specs.Lists.{pick}
+use lib.ListN.{length, getD, drop}
+use Rattle.octets.specs.Lists.{pick, peek}
 use Rattle.pattern.specs.Pattern.{Range, Elem}
 use Rattle.pattern.specs.Reading.{Read, read, items, Body, body, front}
 use Rattle.pattern.specs.declared.reader.Item.{Item}
@@ -26,6 +26,13 @@ body-of first s = body (suc (length s)) first s
 
 abbrev pub front-of : Bool → List ℕ → List Elem
 front-of first s = front (suc (length s)) first s
+
+-- the elements begin behind the anchor `^`, and stop at the anchor `$` where it stands last
+abbrev pub start-of : List ℕ → ℕ
+start-of s = pick (eqb (peek s) 94) 1 0
+
+abbrev pub stop-of : List ℕ → ℕ
+stop-of s = pick (eqb (getD s (length s - 1) 0) 36) (length s - 1) (length s)
 
 -- a range and what is left from `end` on; 0 says refused
 abbrev pub item-read : List ℕ → Item → Option (Read Range)

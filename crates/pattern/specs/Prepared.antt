@@ -8,12 +8,12 @@ use lib.Bits.{bitOr}
 use lib.Dec.{eqb}
 use lib.ListN.{length, drop}
 use lib.Seq.{sets as in-turn}
-use Rattle.octets.specs.Lists.{pick, peek}
+use Rattle.octets.specs.Lists.{pick}
 use Rattle.machine.specs.declared.Shape.{Shape}
 use Rattle.pattern.specs.Pattern.{Atom, Elem, once, star, Pattern}
 use Rattle.pattern.specs.Reading.{read-pattern}
 use Rattle.pattern.specs.Answers.{is-pattern, meet-as}
-use Rattle.pattern.specs.Places.{front-of}
+use Rattle.pattern.specs.Places.{front-of, start-of}
 use Rattle.pattern.specs.Sets.{words}
 use Rattle.pattern.specs.declared.edition1.Marks.{Marks}
 
@@ -134,7 +134,7 @@ pub record Ready (fold : Bool) (p : List ℕ) (h : Shape) (sets : List (List ℕ
 
 -- the elements of a string from behind its `^`, up to its end, its `$` or its first fault
 abbrev pub read-front : List ℕ → List Elem
-read-front p = front-of true (drop (pick (eqb (peek p) 94) 1 0) p)
+read-front p = front-of true (drop (start-of p) p)
 
 -- what `load` leaves: with no pattern, a machine that takes no part whatever the lent places hold. It stores element after element, so
 -- they hold what was read by then; a 61st finds no place.

@@ -9,10 +9,9 @@ ghost use Rattle.pattern.specs.Drawn.{drawn};
 ghost use Rattle.pattern.specs.Pattern.{Atom};
 ghost use Rattle.pattern.specs.Prepared.{no-marks, mark as marked, before-at, set-as, shape-by, no-shape, takes-part, Loaded};
 use crate::reader::atom_at;
-use crate::reader::behind;
-use crate::reader::is_anchor;
 use crate::reader::peek_at;
 use crate::reader::start_at;
+use crate::reader::stop_at;
 use crate::sets::folded;
 use machine::Shape;
 
@@ -154,13 +153,11 @@ pub fn load(s: &[u8], fold: bool, sets: &mut [[u64; 4]; 60], before: &mut [u64; 
         return no_shape();
     }
     let left = peek_at(s, 0) == 94;
+    let stop = stop_at(s);
     let mut i = start_at(s);
     let mut first = true;
     let mut m = no_marks();
-    while i < s.len() {
-        if is_anchor(s, i) {
-            return shape_by(m, left, true);
-        }
+    while i < stop {
         let a = atom_at(s, i, first, true);
         let end = a.end;
         let at = m.at;
@@ -170,16 +167,22 @@ pub fn load(s: &[u8], fold: bool, sets: &mut [[u64; 4]; 60], before: &mut [u64; 
         if at == 60 {
             return no_shape();
         }
-        let repeats = peek_at(s, end) == 42;
         let read = a.set;
         let set = set_as(fold, read);
         sets[at] = set;
-        before[at] = before_at(m, repeats);
-        m = mark(m, repeats);
-        i = behind(end, repeats);
         first = false;
+        // Two ways, not one with a flag: the next element then need not wait until this byte is read.
+        if peek_at(s, end) == 42 {
+            before[at] = before_at(m, true);
+            m = mark(m, true);
+            i = end + 1;
+        } else {
+            before[at] = before_at(m, false);
+            m = mark(m, false);
+            i = end;
+        }
     }
-    shape_by(m, left, false)
+    shape_by(m, left, i < s.len())
 }
 
 // Whether the string that was loaded is a pattern (`Loading.shape-tells`): any other gave the machine that takes no part.

@@ -14,9 +14,9 @@ pub use crate::edition1::load;
 use crate::edition1::no_shape;
 use crate::reader::atom_at;
 use crate::reader::behind;
-use crate::reader::is_anchor;
 use crate::reader::peek_at;
 use crate::reader::start_at;
+use crate::reader::stop_at;
 use machine::Shape;
 use machine::found;
 use machine::leftmost;
@@ -28,13 +28,11 @@ pub fn is_pattern(s: &[u8]) -> bool
     if s.len() == 0 {
         return false;
     }
+    let stop = stop_at(s);
     let mut i = start_at(s);
     let mut first = true;
     let mut n: usize = 0;
-    while i < s.len() {
-        if is_anchor(s, i) {
-            return n <= 60;
-        }
+    while i < stop {
         let a = atom_at(s, i, first, false);
         let end = a.end;
         if end == 0 {

@@ -7,7 +7,7 @@ ghost use lib.Dec.{eqb};
 ghost use lib.ListN.{length, getD, drop};
 ghost use Rattle.octets.specs.Lists.{text, pick, some-of, peek};
 ghost use Rattle.pattern.specs.Pattern.{list};
-ghost use Rattle.pattern.specs.Places.{map-got, items-of, ItemAt, PieceAt};
+ghost use Rattle.pattern.specs.Places.{map-got, items-of, start-of, stop-of, ItemAt, PieceAt};
 ghost use Rattle.pattern.specs.Reading.{class-opens, begins-item, range, item, bracket, escaped, atom};
 ghost use Rattle.pattern.specs.Drawn.{drawn};
 use crate::draw::any;
@@ -222,7 +222,7 @@ pub(crate) fn behind(end: usize, repeats: bool) -> usize
 
 // "`^` as anchor only first"
 pub(crate) fn start_at(s: &[u8]) -> usize
-    ensures { λ r. ⌜ r ≡ pick (eqb (peek (now (s .entry))) 94) 1 0 ⌝ }
+    ensures { λ r. ⌜ r ≡ start-of (now (s .entry)) ⌝ }
 {
     if peek_at(s, 0) == 94 {
         return 1;
@@ -230,10 +230,14 @@ pub(crate) fn start_at(s: &[u8]) -> usize
     0
 }
 
-// "`$` only last"
-pub(crate) fn is_anchor(s: &[u8], i: usize) -> bool
-    requires { ⌜ i < length (now s) ⌝ }
-    ensures { λ r. ⌜ r ≡ (eqb (getD (now (s .entry)) i 0) 36 && eqb (i + 1) (length (now (s .entry)))) ⌝ }
+// "`$` only last": the elements stop there, or at the end.
+pub(crate) fn stop_at(s: &[u8]) -> usize
+    requires { ⌜ 0 < length (now s) ⌝ }
+    ensures { λ r. ⌜ r ≡ stop-of (now (s .entry)) ⌝ }
 {
-    (s[i] == 36) & (i + 1 == s.len())
+    let last = s.len() - 1;
+    if s[last] == 36 {
+        return last;
+    }
+    s.len()
 }

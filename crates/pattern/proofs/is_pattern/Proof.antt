@@ -1,5 +1,5 @@
 use borrow.Author.Needs.{needs}
-use Rattle.pattern.proofs.Elements.{Counted, count-empty, count-start, count-last, count-lost, count-more, count-done, behind-after, behind-at}
+use Rattle.pattern.proofs.Elements.{Counted, count-empty, stop-inside, count-start, count-lost, count-more, count-done, behind-after, behind-at}
 use lib.ListN.{length}
 use Prim.Native.Nat.{_-_, _≤_}
 use native.Mathlib.Omega.{arith}
@@ -7,13 +7,16 @@ use Rattle.pattern.proofs.is_pattern.Statement.{statement}
 use Rattle.pattern.proofs.is_pattern.Tie as tie
 
 abbrev Inv-loop : tie.InvT-loop
-Inv-loop s i₀ first₀ n₀ i first n = Counted s i first n
+Inv-loop s stop i₀ first₀ n₀ i first n = Counted s i first n
 
 abbrev μ-loop : tie.MeasureT-loop
-μ-loop s i₀ first₀ n₀ i first n = length s - i
+μ-loop s stop i₀ first₀ n₀ i first n = length s - i
 
 returns : tie.Need-returns Inv-loop μ-loop
 returns c = search count-empty
+
+stop-at-requires : tie.Need-stop-at-requires Inv-loop μ-loop
+stop-at-requires c κs = search needs
 
 start-at-requires : tie.Need-start-at-requires Inv-loop μ-loop
 start-at-requires c κs = search needs
@@ -21,17 +24,11 @@ start-at-requires c κs = search needs
 loop-holds : tie.Need-loop-holds Inv-loop μ-loop
 loop-holds c = search count-start
 
-is-anchor-requires : tie.Need-is-anchor-requires Inv-loop μ-loop
-is-anchor-requires c κs = search needs
+atom-at-requires : tie.Need-atom-at-requires Inv-loop μ-loop
+atom-at-requires c κs = search (needs, stop-inside)
 
 returns-2 : tie.Need-returns-2 Inv-loop μ-loop
-returns-2 c = search count-last
-
-atom-at-requires : tie.Need-atom-at-requires Inv-loop μ-loop
-atom-at-requires c κs = search needs
-
-returns-3 : tie.Need-returns-3 Inv-loop μ-loop
-returns-3 c = search count-lost
+returns-2 c = search count-lost
 
 peek-at-requires : tie.Need-peek-at-requires Inv-loop μ-loop
 peek-at-requires c κs = search needs
@@ -46,13 +43,13 @@ loop-less : tie.Need-loop-less Inv-loop μ-loop
 loop-less c =
     let a = c .before .before .before .atom-at in
     let j : a .result .end ≤ c .behind .result = search behind-after in
-    omega (arith, a .ensures .forward (c .before .before .if3 .left))
+    omega (arith, a .ensures .forward (c .before .before .if2 .left))
 
 loop-again : tie.Need-loop-again Inv-loop μ-loop
 loop-again c = search (count-more, behind-at)
 
-returns-4 : tie.Need-returns-4 Inv-loop μ-loop
-returns-4 c = search count-done
+returns-3 : tie.Need-returns-3 Inv-loop μ-loop
+returns-3 c = search count-done
 
 pub is-pattern-spec : {M : Type 1} → statement M
 is-pattern-spec =
@@ -61,15 +58,14 @@ is-pattern-spec =
     Inv-loop
     μ-loop
     returns
+    stop-at-requires
     start-at-requires
     loop-holds
-    is-anchor-requires
-    returns-2
     atom-at-requires
-    returns-3
+    returns-2
     peek-at-requires
     behind-requires
     add-n
     loop-less
     loop-again
-    returns-4)
+    returns-3)
