@@ -5,7 +5,6 @@ use mathlib.Core.List.{List, [], _∷_, _++_}
 use Prim.Native.Nat.{ℕ}
 use lib.Dec.{eqb}
 use lib.ListN.{replicate}
-use borrow.Author.Tests.{eqb-true, eqb-false, eq-eqb, ne-eqb}
 use Rattle.octets.specs.Bytes.{within, lower, upper}
 use Rattle.octets.specs.Lists.{some-of}
 use Rattle.pattern.specs.Pattern.{Range, Atom, byte, dot, list, in-range, meets}
@@ -51,14 +50,10 @@ draw-same set true true e l s = absurd (true≢false e)
 draw-same set true false e l s = s
 draw-same set false neg e l s = s ∙ draw-off false refl (list false l) (list neg l)
 
-pub draw-byte : (r : List ℕ) (c : ℕ) (build : Bool) → build ≡ true → ((f : ℕ → Bool) → replicate 4 0 ≡ words f → r ≡ words (λ b. f b || eqb b c)) → r ≡ drawn build (byte c)
+pub draw-byte : (r : List ℕ) (c : ℕ) (build : Bool) → build ≡ true → r ≡ words (eqb c) → r ≡ drawn build (byte c)
 unfolding drawn
-draw-byte r c true e add = add (λ b. false) no-words ∙ words-ext (λ b. eqb b c) (λ b. eqb c b) (λ b h. turn b (eqb c b) refl)
-  where
-    turn : (b : ℕ) (t : Bool) → eqb c b ≡ t → eqb b c ≡ eqb c b
-    turn b true e = eq-eqb b c (sym (eqb-true c b e)) ∙ sym e
-    turn b false e = ne-eqb b c (λ q. eqb-false c b e (sym q)) ∙ sym e
-draw-byte r c false e add = absurd (true≢false (sym e))
+draw-byte r c true e q = q
+draw-byte r c false e q = absurd (true≢false (sym e))
 
 pub draw-dot : (r : List ℕ) (build : Bool) → build ≡ true → ((f : ℕ → Bool) → replicate 4 0 ≡ words f → r ≡ words (λ b. not (eqb b 0) && not (f b))) → r ≡ drawn build dot
 unfolding drawn

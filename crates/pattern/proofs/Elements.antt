@@ -6,13 +6,13 @@ use mathlib.Core.List.{List, [], _∷_}
 use Prim.Native.Nat.{ℕ, suc, _+_, _-_, _<_, _≤_}
 use native.Mathlib.Nat.{add-zero, zero-add}
 use native.Mathlib.Omega.{arith}
-use lib.Dec.{eqb, leb, ltb}
+use lib.Dec.{T, eqb, leb, ltb}
 use lib.ListN.{length, getD, drop, drop-of-length-le}
 use lib.Seq.{drop-drop}
-use borrow.Author.Tests.{eqb-true, eq-eqb, lt-leb, ltb-true, ltb-false}
+use borrow.Author.Tests.{eqb-true, eq-eqb, ne-eqb, lt-leb, ltb-true, ltb-false}
 use Rattle.octets.specs.Lists.{pick, peek}
 use Rattle.octets.specs.Option.{_>>=_, holds}
-use Rattle.octets.proofs.Tests.{either}
+use Rattle.octets.proofs.Tests.{T-of, is-true, left, either}
 use Rattle.machine.proofs.Places.{drop-at, empty-at}
 use Rattle.pattern.specs.Answers.{was-read, is-pattern}
 use Rattle.pattern.specs.Pattern.{Atom, Elem, Pattern}
@@ -23,7 +23,7 @@ use Rattle.pattern.specs.Drawn.{drawn}
 use Rattle.pattern.specs.declared.reader.Piece.{Piece}
 use Rattle.pattern.proofs.Atoms.{piece-found, piece-lost, map-none, map-some}
 use Rattle.pattern.proofs.Countdown.{body-next, body-none, body-fuel}
-use Rattle.pattern.proofs.Places.{peek-inside}
+use Rattle.pattern.proofs.Places.{peek-in, peek-inside}
 
 -- ---- behind an atom and its `*`
 
@@ -43,8 +43,8 @@ behind-ge t e = either (λ (n : ℕ). e ≤ n) t (e + 1) e (omega arith) (omega 
 pub behind-after : (t : Bool) (e j : ℕ) → j ≡ pick t (e + 1) e → e ≤ j
 behind-after t e j q = subst⁻¹ (λ (k : ℕ). e ≤ k) q (behind-ge t e)
 
-pub behind-at : (s : List ℕ) (e next j : ℕ) → next ≡ peek (drop e s) → j ≡ pick (eqb next 42) (e + 1) e → j ≡ pick (eqb (peek (drop e s)) 42) (e + 1) e
-behind-at s e next j n q = q ∙ ap (λ (k : ℕ). pick (eqb k 42) (e + 1) e) n
+pub behind-at : (s : List ℕ) (e j : ℕ) (t : Bool) → t ≡ eqb (peek (drop e s)) 42 → j ≡ pick t (e + 1) e → j ≡ pick (eqb (peek (drop e s)) 42) (e + 1) e
+behind-at s e j t n q = q ∙ ap (λ (b : Bool). pick b (e + 1) e) n
 
 pub behind-drop : (t : Bool) (s : List ℕ) (e : ℕ) → pick t (drop 1 (drop e s)) (drop e s) ≡ drop (pick t (e + 1) e) s
 behind-drop true s e = drop-drop 1 e s
@@ -87,6 +87,21 @@ module _ (s : List ℕ) (i stop : ℕ) (q : stop ≡ stop-of s) where
           let w : i ≡ length s - 1 = omega (arith, stop-by true e) in
           ap₂ (λ (x y : Bool). x && y) (ap (λ (n : ℕ). eqb (getD s n 0) 36) w ∙ e) (eq-eqb (i + 1) (length s) (omega arith))
       go false e = absurd (omega (arith, stop-by false e))
+
+-- there is no `*` from there on
+pub star-before : (s : List ℕ) (i stop : ℕ) → stop ≡ stop-of s → i < stop → eqb (getD s i 0) 42 ≡ eqb (peek (drop i s)) 42
+star-before s i stop q h = ap (λ (n : ℕ). eqb n 42) (peek-in s i (stop-inside s i stop q h))
+
+pub star-past : (s : List ℕ) (i stop : ℕ) → stop ≡ stop-of s → stop ≤ i → false ≡ eqb (peek (drop i s)) 42
+star-past s i stop q h = sym (ne-eqb (peek (drop i s)) 42 at)
+  where
+    at : peek (drop i s) ≡ 42 → ⊥
+    at z =
+        let l : i < length s = star-inside s i (peek (drop i s)) refl z in
+        let t : T (anchor-at s i) = T-of (stop-here s i stop q h l) in
+        let d : getD s i 0 ≡ 36 = eqb-true (getD s i 0) 36 (is-true (eqb (getD s i 0) 36) (left (eqb (getD s i 0) 36) (eqb (i + 1) (length s)) t)) in
+        let y : _≡_ {A = ℕ} 36 42 = sym d ∙ peek-in s i l ∙ z in
+        absurd (omega arith)
 
 -- ---- an element's parts
 

@@ -7,7 +7,7 @@ use Prim.Native.Nat.{ℕ, _+_, _<_, _≤_}
 use native.Mathlib.Omega.{arith}
 use lib.Dec.{eqb, ltb}
 use lib.ListN.{length, getD, drop, set, length-set}
-use borrow.Author.Tests.{le-leb, eq-eqb, ne-eqb}
+use borrow.Author.Tests.{le-leb, ne-eqb}
 use Rattle.octets.specs.Lists.{pick, peek}
 use Rattle.machine.specs.declared.Shape.{Shape}
 use Rattle.pattern.specs.Answers.{was-read, is-pattern}
@@ -120,17 +120,16 @@ module _ (fold : Bool) (s : List ℕ) (old-sets : List (List ℕ)) (old-before :
                 counts-at i′ ei w q = rw q (counts-on i′ ei)
 
             -- the element stands once, or a `*` follows it
-            module _ (free : m .at ≡ 60 → ⊥) (u : List ℕ) (eu : (x : Atom) → r .set ≡ drawn true x → u ≡ set-as fold x) (next : ℕ) (f : next ≡ peek (drop (r .end) s))
-                (m′ : Marks) (v : ℕ) where
-              pub load-starred : next ≡ 42 → m′ ≡ mark m true → v ≡ before-at m true → Loading (r .end + 1) false m′ (set ss (m .at) u) (set bs (m .at) v)
+            module _ (free : m .at ≡ 60 → ⊥) (u : List ℕ) (eu : (x : Atom) → r .set ≡ drawn true x → u ≡ set-as fold x) (t : Bool) (f : t ≡ repeats) (m′ : Marks) (v : ℕ) where
+              pub load-starred : t ≡ true → m′ ≡ mark m true → v ≡ before-at m true → Loading (r .end + 1) false m′ (set ss (m .at) u) (set bs (m .at) v)
               load-starred z em ev =
-                  let e : true ≡ repeats = sym (eq-eqb (peek (drop (r .end) s)) 42 (sym f ∙ z)) in
-                  load-more free (r .end + 1) m′ u v true eu e (ap (λ (t : Bool). pick t (r .end + 1) (r .end)) e) em ev
+                  let e : true ≡ repeats = sym z ∙ f in
+                  load-more free (r .end + 1) m′ u v true eu e (ap (λ (b : Bool). pick b (r .end + 1) (r .end)) e) em ev
 
-              pub load-once : (next ≡ 42 → ⊥) → m′ ≡ mark m false → v ≡ before-at m false → Loading (r .end) false m′ (set ss (m .at) u) (set bs (m .at) v)
+              pub load-once : t ≡ false → m′ ≡ mark m false → v ≡ before-at m false → Loading (r .end) false m′ (set ss (m .at) u) (set bs (m .at) v)
               load-once z em ev =
-                  let e : false ≡ repeats = sym (ne-eqb (peek (drop (r .end) s)) 42 (λ y. z (f ∙ y))) in
-                  load-more free (r .end) m′ u v false eu e (ap (λ (t : Bool). pick t (r .end + 1) (r .end)) e) em ev
+                  let e : false ≡ repeats = sym z ∙ f in
+                  load-more free (r .end) m′ u v false eu e (ap (λ (b : Bool). pick b (r .end + 1) (r .end)) e) em ev
 
 -- ---- what the machine tells
 

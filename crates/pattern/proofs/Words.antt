@@ -1,21 +1,21 @@
--- Sets of bytes as words: a byte more, a range more, all others.
+-- Sets of bytes as words: one byte, a range more, all others, the other form of each letter.
 use Rattle.octets.proofs.Tests.{not-or}
 use mathlib.Core.Path.{_≡_, refl, sym, ap, ap₂, _∙_}
-use mathlib.Core.Bool.{Bool, true, false, not, _&&_, _||_, or-false, and-true, and-false, or-self, and-comm}
+use mathlib.Core.Bool.{Bool, true, false, not, _&&_, _||_, and-true, and-false, or-self, and-comm}
 use mathlib.Core.List.{List, [], _∷_}
 use Prim.Native.Nat.{ℕ, zero, suc, _+_, _-_, _*_, _/_, _%_, _^_, _<_, _≤_}
 use native.Mathlib.Nat.{mod-lt, lt-of-le-of-lt}
 use native.Mathlib.Omega.{arith}
 use lib.Bits.{bitAnd, bitOr, bitXor, and-le-r, or-lt, xor-lt}
 use lib.Dec.{eqb, ltb, leb}
-use lib.ListN.{length, getD, set, replicate, length-set}
+use lib.ListN.{length, getD, replicate}
 use lib.Pow.{pow-lt, pow-pos, shl-exact}
-use lib.Seq.{getD-set-same, getD-set-other, ext-getD}
+use lib.Seq.{ext-getD}
 use borrow.Author.Tests.{eqb-true, eqb-false, eq-eqb, ne-eqb, ltb-true, ltb-false, lt-ltb, le-ltb, le-leb, lt-leb, leb-true, leb-false}
 use Rattle.octets.specs.Bits.{bit, mask}
 use Rattle.octets.specs.Bytes.{within, lower, upper}
 use Rattle.octets.specs.Lists.{pick}
-use Rattle.octets.proofs.Bits.{bit-and, bit-or, bit-shr, bit-shl, bit-shl-low, bit-add, bit-xor, bit-zero, bit-mask, mask-bit, mask-lt, mask-of, mask-or, ones-up, ones-down, shl-one}
+use Rattle.octets.proofs.Bits.{bit-and, bit-or, bit-shr, bit-shl, bit-shl-low, bit-add, bit-pow, bit-xor, bit-zero, bit-mask, mask-bit, mask-lt, mask-of, mask-or, ones-up, ones-down, shl-one}
 use Rattle.machine.specs.Machine.{in-set}
 use Rattle.pattern.specs.Sets.{word, words}
 
@@ -80,51 +80,62 @@ pub no-words : replicate 4 0 ≡ words (λ b. false)
 unfolding words mask
 no-words = refl
 
--- ---- a byte more
-
-module _ (f : ℕ → Bool) (c : ℕ) (h : c < 256) where
-  same-place : (i k : ℕ) → i ≡ c / 64 → k < 64 → eqb k (c % 64) ≡ eqb (64 * i + k) c
-  same-place i k q l = go (eqb k (c % 64)) refl
-    where
-      go : (t : Bool) → eqb k (c % 64) ≡ t → eqb k (c % 64) ≡ eqb (64 * i + k) c
-      go true t = let z : k ≡ c % 64 = eqb-true k (c % 64) t in t ∙ sym (eq-eqb (64 * i + k) c (omega arith))
-      go false t = t ∙ sym (ne-eqb (64 * i + k) c (λ z. eqb-false k (c % 64) t (omega arith)))
-
-  -- the word that holds c, with its bit
-  with-byte : ℕ
-  with-byte = bitOr (getD (words f) (c / 64) 0) (2 ^ (c % 64))
-
-  set-word : (i : ℕ) → i < 4 → (t : Bool) → eqb i (c / 64) ≡ t → getD (set (words f) (c / 64) with-byte) i 0 ≡ word (λ b. f b || eqb b c) i
-  unfolding with-byte
-  set-word i l true t =
-      let q : i ≡ c / 64 = eqb-true i (c / 64) t in
-      ap (λ (j : ℕ). getD (set (words f) (c / 64) with-byte) j 0) q
-      ∙ getD-set-same (words f) (c / 64) with-byte 0 (omega (arith, four f))
-      ∙ ap (λ (n : ℕ). bitOr n (2 ^ (c % 64))) (word-at f (c / 64) (omega arith) ∙ ap (word f) (sym q))
-      ∙ mask-with (λ k. f (64 * i + k)) (c % 64) (omega arith)
-      ∙ mask-ext (λ k. f (64 * i + k) || eqb k (c % 64)) (λ k. f (64 * i + k) || eqb (64 * i + k) c)
-      (λ k j. ap (λ (x : Bool). f (64 * i + k) || x) (same-place i k q j))
-  set-word i l false t =
-      let n = eqb-false i (c / 64) t in
-      getD-set-other (words f) (c / 64) i with-byte 0 n ∙ word-at f i l
-      ∙ mask-ext (λ k. f (64 * i + k)) (λ k. f (64 * i + k) || eqb (64 * i + k) c)
-      (λ k j. sym (ap (λ (x : Bool). f (64 * i + k) || x) (ne-eqb (64 * i + k) c (λ z. n (omega arith))) ∙ or-false (f (64 * i + k))))
-
-  pub add-word : (ws : List ℕ) → ws ≡ words f
-      → set ws (c / 64) (bitOr (getD ws (c / 64) 0) (1 * 2 ^ (c % 64) % 2 ^ 64)) ≡ words (λ b. f b || eqb b c)
-  unfolding with-byte
-  add-word ws e =
-      rw (e, shl-one 64 (c % 64) (omega arith))
-      (by-words (set (words f) (c / 64) with-byte) (λ b. f b || eqb b c) (length-set (words f) (c / 64) with-byte ∙ four f)
-      (λ i l. set-word i l (eqb i (c / 64)) refl))
-
--- ---- a range more: of the 64 bytes from a place on, those that are not below lo and not above hi
+four-words : {a b c d : ℕ} (f : ℕ → Bool) → a ≡ word f 0 → b ≡ word f 1 → c ≡ word f 2 → d ≡ word f 3 → a ∷ b ∷ c ∷ d ∷ [] ≡ words f
+unfolding words
+four-words f p q r s = ap₂ (λ (x : ℕ) (l : List ℕ). x ∷ l) p (ap₂ (λ (x : ℕ) (l : List ℕ). x ∷ l) q (ap₂ (λ (x y : ℕ). x ∷ y ∷ []) r s))
 
 none-set : (f : ℕ → Bool) → ((k : ℕ) → k < 64 → f k ≡ false) → 0 ≡ mask 64 f
 none-set f e = mask-of 64 0 f (omega arith) (λ k h. bit-zero k ∙ sym (e k h))
 
 all-set : (f : ℕ → Bool) → ((k : ℕ) → k < 64 → f k ≡ true) → all-bits ≡ mask 64 f
 all-set f e = sym all-mask ∙ mask-ext (λ k. true) f (λ k h. sym (e k h))
+
+-- ---- one byte
+
+module _ (c : ℕ) where
+  -- the word that holds it, and any other
+  here : (i : ℕ) → i ≡ c / 64 → 1 * 2 ^ (c % 64) % 2 ^ 64 ≡ word (eqb c) i
+  here i q =
+      shl-one 64 (c % 64) (omega arith)
+      ∙ mask-of 64 (2 ^ (c % 64)) (λ k. eqb c (64 * i + k)) (pow-lt (mod-lt c (omega arith))) (λ k h. bit-pow (c % 64) k ∙ at k h (eqb k (c % 64)) refl)
+    where
+      at : (k : ℕ) → k < 64 → (t : Bool) → eqb k (c % 64) ≡ t → eqb k (c % 64) ≡ eqb c (64 * i + k)
+      at k h true t = let z : k ≡ c % 64 = eqb-true k (c % 64) t in t ∙ sym (eq-eqb c (64 * i + k) (omega arith))
+      at k h false t = t ∙ sym (ne-eqb c (64 * i + k) (λ z. eqb-false k (c % 64) t (omega arith)))
+
+  away : (i : ℕ) → (i ≡ c / 64 → ⊥) → 0 ≡ word (eqb c) i
+  away i n = none-set (λ k. eqb c (64 * i + k)) (λ k h. ne-eqb c (64 * i + k) (λ z. n (omega arith)))
+
+  -- the two words from i on, of which the second begins at `middle`
+  module _ (i middle x y : ℕ) (m : 64 * i + 64 ≡ middle) (low : 64 * i ≤ c) (high : c < 64 * i + 128)
+      (ex : x ≡ pick (leb middle c) 0 (1 * 2 ^ (c % 64) % 2 ^ 64)) (ey : y ≡ pick (ltb c middle) 0 (1 * 2 ^ (c % 64) % 2 ^ 64)) where
+    first-of : x ≡ word (eqb c) i
+    first-of = go (leb middle c) refl
+      where
+        go : (t : Bool) → leb middle c ≡ t → x ≡ word (eqb c) i
+        go true t = let l = leb-true middle c t in ex ∙ ap (λ (b : Bool). pick b 0 (1 * 2 ^ (c % 64) % 2 ^ 64)) t ∙ away i (λ z. omega arith)
+        go false t = let l = leb-false middle c t in ex ∙ ap (λ (b : Bool). pick b 0 (1 * 2 ^ (c % 64) % 2 ^ 64)) t ∙ here i (omega arith)
+
+    second-of : y ≡ word (eqb c) (i + 1)
+    second-of = go (ltb c middle) refl
+      where
+        go : (t : Bool) → ltb c middle ≡ t → y ≡ word (eqb c) (i + 1)
+        go true t = let l = ltb-true c middle t in ey ∙ ap (λ (b : Bool). pick b 0 (1 * 2 ^ (c % 64) % 2 ^ 64)) t ∙ away (i + 1) (λ z. omega arith)
+        go false t = let l = ltb-false c middle t in ey ∙ ap (λ (b : Bool). pick b 0 (1 * 2 ^ (c % 64) % 2 ^ 64)) t ∙ here (i + 1) (omega arith)
+
+  pub only-low : (x y : ℕ) → c < 128 → x ≡ pick (leb 64 c) 0 (1 * 2 ^ (c % 64) % 2 ^ 64) → y ≡ pick (ltb c 64) 0 (1 * 2 ^ (c % 64) % 2 ^ 64)
+      → x ∷ y ∷ 0 ∷ 0 ∷ [] ≡ words (eqb c)
+  only-low x y h ex ey =
+      four-words (eqb c) (first-of 0 64 x y refl (omega arith) (omega arith) ex ey) (second-of 0 64 x y refl (omega arith) (omega arith) ex ey)
+      (away 2 (λ z. omega arith)) (away 3 (λ z. omega arith))
+
+  pub only-high : (x y : ℕ) → c < 256 → 128 ≤ c → x ≡ pick (leb 192 c) 0 (1 * 2 ^ (c % 64) % 2 ^ 64) → y ≡ pick (ltb c 192) 0 (1 * 2 ^ (c % 64) % 2 ^ 64)
+      → 0 ∷ 0 ∷ x ∷ y ∷ [] ≡ words (eqb c)
+  only-high x y g h ex ey =
+      four-words (eqb c) (away 0 (λ z. omega arith)) (away 1 (λ z. omega arith))
+      (first-of 2 192 x y refl (omega arith) (omega arith) ex ey) (second-of 2 192 x y refl (omega arith) (omega arith) ex ey)
+
+-- ---- a range more: of the 64 bytes from a place on, those that are not below lo and not above hi
 
 module _ (from lo : ℕ) where
   pub all-from : lo ≤ from → all-bits ≡ mask 64 (λ k. leb lo (from + k))
@@ -163,10 +174,7 @@ pub range-words : (ws : List ℕ) (lo hi a b c d : ℕ)
     → bitOr (getD ws 0 0) a ∷ bitOr (getD ws 1 0) b ∷ bitOr (getD ws 2 0) c ∷ bitOr (getD ws 3 0) d ∷ [] ≡ words (λ x. f x || within lo hi x)
 unfolding words
 range-words ws lo hi a b c d ea eb ec ed f e =
-    rw (e, ea, eb, ec, ed)
-    (ap₂ (λ (x : ℕ) (l : List ℕ). x ∷ l) (with-range 0)
-    (ap₂ (λ (x : ℕ) (l : List ℕ). x ∷ l) (with-range 1)
-    (ap₂ (λ (x y : ℕ). x ∷ y ∷ []) (with-range 2) (with-range 3))))
+    rw (e, ea, eb, ec, ed) (four-words (λ x. f x || within lo hi x) (with-range 0) (with-range 1) (with-range 2) (with-range 3))
   where
     with-range : (i : ℕ) → bitOr (word f i) (mask 64 (λ k. within lo hi (64 * i + k))) ≡ word (λ x. f x || within lo hi x) i
     with-range i = mask-or 64 (λ k. f (64 * i + k)) (λ k. within lo hi (64 * i + k))
@@ -176,9 +184,16 @@ range-words ws lo hi a b c d ea eb ec ed f e =
 pub other-words : (ws : List ℕ) (f : ℕ → Bool) → ws ≡ words f
     → bitXor (bitOr (getD ws 0 0) 1) all-bits ∷ bitXor (getD ws 1 0) all-bits ∷ bitXor (getD ws 2 0) all-bits ∷ bitXor (getD ws 3 0) all-bits ∷ []
     ≡ words (λ b. not (eqb b 0) && not (f b))
-other-words ws f e = rw e (by-words _ (λ b. not (eqb b 0) && not (f b)) refl at)
+unfolding words
+other-words ws f e =
+    rw e
+    (four-words (λ b. not (eqb b 0) && not (f b))
+    (ap (λ (n : ℕ). bitXor n all-bits) (mask-with (λ k. f (64 * 0 + k)) 0 (omega arith)) ∙ mask-not (λ k. f (64 * 0 + k) || eqb k 0)
+    ∙ mask-ext (λ k. not (f (64 * 0 + k) || eqb k 0)) (λ k. not (eqb (64 * 0 + k) 0) && not (f (64 * 0 + k)))
+    (λ k l. turn (f (64 * 0 + k)) (eqb k 0) ∙ ap (λ (n : ℕ). not (eqb n 0) && not (f (64 * 0 + k))) (let z : k ≡ 64 * 0 + k = omega arith in z)))
+    (flip 1 (λ z. omega arith)) (flip 2 (λ z. omega arith)) (flip 3 (λ z. omega arith)))
   where
-    flip : (i : ℕ) → (i ≡ 0 → ⊥) → bitXor (mask 64 (λ k. f (64 * i + k))) all-bits ≡ mask 64 (λ k. not (eqb (64 * i + k) 0) && not (f (64 * i + k)))
+    flip : (i : ℕ) → (i ≡ 0 → ⊥) → bitXor (word f i) all-bits ≡ word (λ b. not (eqb b 0) && not (f b)) i
     flip i n =
         mask-not (λ k. f (64 * i + k))
         ∙ mask-ext (λ k. not (f (64 * i + k))) (λ k. not (eqb (64 * i + k) 0) && not (f (64 * i + k)))
@@ -186,20 +201,6 @@ other-words ws f e = rw e (by-words _ (λ b. not (eqb b 0) && not (f b)) refl at
 
     turn : (x y : Bool) → not (x || y) ≡ (not y && not x)
     turn x y = not-or x y ∙ and-comm (not x) (not y)
-
-    at : (i : ℕ) → i < 4
-        → getD (bitXor (bitOr (getD (words f) 0 0) 1) all-bits ∷ bitXor (getD (words f) 1 0) all-bits ∷ bitXor (getD (words f) 2 0) all-bits ∷ bitXor (getD (words f) 3 0) all-bits ∷ []) i 0
-        ≡ word (λ b. not (eqb b 0) && not (f b)) i
-    at zero h =
-        ap (λ (n : ℕ). bitXor (bitOr n 1) all-bits) (word-at f 0 (omega arith))
-        ∙ ap (λ (n : ℕ). bitXor n all-bits) (mask-with (λ k. f (64 * 0 + k)) 0 (omega arith))
-        ∙ mask-not (λ k. f (64 * 0 + k) || eqb k 0)
-        ∙ mask-ext (λ k. not (f (64 * 0 + k) || eqb k 0)) (λ k. not (eqb (64 * 0 + k) 0) && not (f (64 * 0 + k)))
-        (λ k l. turn (f (64 * 0 + k)) (eqb k 0) ∙ ap (λ (n : ℕ). not (eqb n 0) && not (f (64 * 0 + k))) (let z : k ≡ 64 * 0 + k = omega arith in z))
-    at (suc zero) h = ap (λ (n : ℕ). bitXor n all-bits) (word-at f 1 (omega arith)) ∙ flip 1 (λ z. omega arith)
-    at (suc (suc zero)) h = ap (λ (n : ℕ). bitXor n all-bits) (word-at f 2 (omega arith)) ∙ flip 2 (λ z. omega arith)
-    at (suc (suc (suc zero))) h = ap (λ (n : ℕ). bitXor n all-bits) (word-at f 3 (omega arith)) ∙ flip 3 (λ z. omega arith)
-    at (suc (suc (suc (suc i)))) h = absurd (omega arith)
 
 -- ---- the other form of each letter: 26 of them from 65 and from 97 on, bits 1 and 33 of word 1
 
@@ -360,6 +361,5 @@ module _ (f : ℕ → Bool) where
   unfolding words
   folded-words ws e =
       rw e
-      (ap₂ (λ (x : ℕ) (l : List ℕ). x ∷ l) (outside 0 (λ z. omega arith))
-      (ap₂ (λ (x : ℕ) (l : List ℕ). x ∷ l) (mask-of 64 folded (λ k. both-forms (64 * 1 + k)) folded-lt folded-bit)
-      (ap₂ (λ (x y : ℕ). x ∷ y ∷ []) (outside 2 (λ z. omega arith)) (outside 3 (λ z. omega arith)))))
+      (four-words both-forms (outside 0 (λ z. omega arith)) (mask-of 64 folded (λ k. both-forms (64 * 1 + k)) folded-lt folded-bit)
+      (outside 2 (λ z. omega arith)) (outside 3 (λ z. omega arith)))

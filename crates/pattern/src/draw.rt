@@ -4,8 +4,8 @@ ghost use mathlib.Core.Bool.{false};
 ghost use mathlib.Core.List.{List, [], _∷_, _++_};
 ghost use Rattle.pattern.specs.Pattern.{Range, byte, dot, list};
 ghost use Rattle.pattern.specs.Drawn.{drawn};
-use crate::sets::add_byte;
 use crate::sets::add_range;
+use crate::sets::only;
 use crate::sets::others;
 
 // A list's set with one range more, where sets are asked for.
@@ -33,7 +33,7 @@ pub(crate) fn lone(build: bool, c: u8) -> [u64; 4]
 {
     let none = [0u64; 4];
     if build {
-        return add_byte(none, c);
+        return only(c);
     }
     none
 }

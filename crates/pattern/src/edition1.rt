@@ -10,9 +10,11 @@ ghost use Rattle.pattern.specs.Pattern.{Atom};
 ghost use Rattle.pattern.specs.Prepared.{no-marks, mark as marked, before-at, set-as, shape-by, no-shape, takes-part, Loaded};
 use crate::reader::atom_at;
 use crate::reader::peek_at;
+use crate::reader::star_at;
 use crate::reader::start_at;
 use crate::reader::stop_at;
 use crate::sets::folded;
+use crate::sets::unless;
 use machine::Shape;
 
 // Of the elements before the position `at`: those that may come right before it, those that may come first, and whether all may
@@ -87,15 +89,6 @@ fn set_as(fold: bool, set: [u64; 4]) -> [u64; 4]
     set
 }
 
-fn unless(flag: bool, mask: u64) -> u64
-    ensures { λ r. ⌜ r ≡ pick flag 0 mask ⌝ }
-{
-    if flag {
-        return 0;
-    }
-    mask
-}
-
 // The machine of all elements, with the anchors `^` and `$`.
 fn shape_by(m: Marks, left: bool, right: bool) -> Shape
     ensures { λ r. ⌜ r ≡ shape-by m left right ⌝ }
@@ -152,7 +145,6 @@ pub fn load(s: &[u8], fold: bool, sets: &mut [[u64; 4]; 60], before: &mut [u64; 
     if s.len() == 0 {
         return no_shape();
     }
-    let left = peek_at(s, 0) == 94;
     let stop = stop_at(s);
     let mut i = start_at(s);
     let mut first = true;
@@ -172,7 +164,7 @@ pub fn load(s: &[u8], fold: bool, sets: &mut [[u64; 4]; 60], before: &mut [u64; 
         sets[at] = set;
         first = false;
         // Two ways, not one with a flag: the next element then need not wait until this byte is read.
-        if peek_at(s, end) == 42 {
+        if star_at(s, end, stop) {
             before[at] = before_at(m, true);
             m = mark(m, true);
             i = end + 1;
@@ -182,6 +174,7 @@ pub fn load(s: &[u8], fold: bool, sets: &mut [[u64; 4]; 60], before: &mut [u64; 
             i = end;
         }
     }
+    let left = peek_at(s, 0) == 94;
     shape_by(m, left, i < s.len())
 }
 

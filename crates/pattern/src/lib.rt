@@ -14,7 +14,7 @@ pub use crate::edition1::load;
 use crate::edition1::no_shape;
 use crate::reader::atom_at;
 use crate::reader::behind;
-use crate::reader::peek_at;
+use crate::reader::star_at;
 use crate::reader::start_at;
 use crate::reader::stop_at;
 use machine::Shape;
@@ -38,7 +38,7 @@ pub fn is_pattern(s: &[u8]) -> bool
         if end == 0 {
             return false;
         }
-        let repeats = peek_at(s, end) == 42;
+        let repeats = star_at(s, end, stop);
         i = behind(end, repeats);
         first = false;
         n += 1;

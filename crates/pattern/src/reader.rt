@@ -209,6 +209,17 @@ pub(crate) fn atom_at(s: &[u8], i: usize, first: bool, build: bool) -> Piece
     Piece { end: i + 1, set }
 }
 
+// Whether an atom that ends at i repeats. Where the elements stop there is no `*`.
+pub(crate) fn star_at(s: &[u8], i: usize, stop: usize) -> bool
+    requires { ⌜ stop ≡ stop-of (now s) ⌝ }
+    ensures { λ r. ⌜ r ≡ eqb (peek (drop i (now (s .entry)))) 42 ⌝ }
+{
+    if i < stop {
+        return s[i] == 42;
+    }
+    false
+}
+
 // Behind an atom that ends at `end`, and its `*`.
 pub(crate) fn behind(end: usize, repeats: bool) -> usize
     requires { ⌜ end < 9223372036854775808 ⌝ }

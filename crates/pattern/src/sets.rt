@@ -5,6 +5,7 @@ ghost use Prim.Native.Nat.{ℕ, _+_};
 ghost use lib.Dec.{eqb, leb};
 ghost use Rattle.octets.specs.Bits.{mask};
 ghost use Rattle.octets.specs.Bytes.{within, lower, upper};
+ghost use Rattle.octets.specs.Lists.{pick};
 ghost use Rattle.pattern.specs.Sets.{words};
 
 // All bits of a word.
@@ -13,15 +14,24 @@ const ALL: u64 = 18446744073709551615;
 // The lowest 26 bits, one for each letter.
 const LETTERS: u64 = 67108863;
 
-// The set with one byte more.
-pub(crate) fn add_byte(set: [u64; 4], c: u8) -> [u64; 4]
-    ensures { λ r. ⌜ ((f : ℕ → Bool) → set ≡ words f → r ≡ words (λ b. f b || eqb b c)) ⌝ }
+pub(crate) fn unless(flag: bool, mask: u64) -> u64
+    ensures { λ r. ⌜ r ≡ pick flag 0 mask ⌝ }
 {
-    let mut s = set;
-    let w = (c / 64) as usize;
-    let k = c % 64;
-    s[w] = s[w] | 1 << k;
-    s
+    if flag {
+        return 0;
+    }
+    mask
+}
+
+// The set of one byte. Each word is chosen by a test: a word at an index would be made in memory, and the machine waits for that.
+pub(crate) fn only(c: u8) -> [u64; 4]
+    ensures { λ r. ⌜ r ≡ words (eqb c) ⌝ }
+{
+    let bit: u64 = 1 << (c % 64);
+    if c < 128 {
+        return [unless(c >= 64, bit), unless(c < 64, bit), 0, 0];
+    }
+    [0, 0, unless(c >= 192, bit), unless(c < 192, bit)]
 }
 
 // Of the 64 bytes from `from` on, those that are not below lo.

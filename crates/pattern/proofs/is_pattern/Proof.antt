@@ -30,8 +30,8 @@ atom-at-requires c κs = search (needs, stop-inside)
 returns-2 : tie.Need-returns-2 Inv-loop μ-loop
 returns-2 c = search count-lost
 
-peek-at-requires : tie.Need-peek-at-requires Inv-loop μ-loop
-peek-at-requires c κs = search needs
+star-at-requires : tie.Need-star-at-requires Inv-loop μ-loop
+star-at-requires c κs = search needs
 
 behind-requires : tie.Need-behind-requires Inv-loop μ-loop
 behind-requires c κs = omega (arith, c .before .before .atom-at .ensures .inside)
@@ -63,7 +63,7 @@ is-pattern-spec =
     loop-holds
     atom-at-requires
     returns-2
-    peek-at-requires
+    star-at-requires
     behind-requires
     add-n
     loop-less

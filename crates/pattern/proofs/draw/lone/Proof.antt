@@ -3,8 +3,8 @@ use Rattle.pattern.proofs.Drawing.{draw-byte, none-off}
 use Rattle.pattern.proofs.draw.lone.Statement.{statement}
 use Rattle.pattern.proofs.draw.lone.Tie as tie
 
-add-byte-requires : tie.Need-add-byte-requires
-add-byte-requires c κs = search needs
+only-requires : tie.Need-only-requires
+only-requires c κs = search needs
 
 returns : tie.Need-returns
 returns c = search draw-byte
@@ -13,4 +13,4 @@ returns-2 : tie.Need-returns-2
 returns-2 c = search none-off
 
 pub lone-spec : {M : Type 1} → statement M
-lone-spec = tie.close (tie.spec add-byte-requires returns returns-2)
+lone-spec = tie.close (tie.spec only-requires returns returns-2)

@@ -8,19 +8,16 @@ use Rattle.pattern.proofs.edition1.load.Statement.{statement}
 use Rattle.pattern.proofs.edition1.load.Tie as tie
 
 abbrev Inv-loop : tie.InvT-loop
-Inv-loop s fold sets₀ before₀ left stop i₀ first₀ m₀ sets before i first m = Loading fold s sets₀ before₀ i first m sets before
+Inv-loop s fold sets₀ before₀ stop i₀ first₀ m₀ sets before i first m = Loading fold s sets₀ before₀ i first m sets before
 
 abbrev μ-loop : tie.MeasureT-loop
-μ-loop s fold sets₀ before₀ left stop i₀ first₀ m₀ sets before i first m = length s - i
+μ-loop s fold sets₀ before₀ stop i₀ first₀ m₀ sets before i first m = length s - i
 
 no-shape-requires : tie.Need-no-shape-requires Inv-loop μ-loop
 no-shape-requires c κs = search needs
 
 returns : tie.Need-returns Inv-loop μ-loop
 returns c = load-empty _ _ _ _ _ (c .before .if1 .taken) (c .no-shape .ensures) (search needs) (search needs)
-
-peek-at-requires : tie.Need-peek-at-requires Inv-loop μ-loop
-peek-at-requires c κs = search needs
 
 stop-at-requires : tie.Need-stop-at-requires Inv-loop μ-loop
 stop-at-requires c κs = search needs
@@ -37,7 +34,7 @@ loop-holds c = search load-start
 atom-at-requires : tie.Need-atom-at-requires Inv-loop μ-loop
 atom-at-requires c κs =
     let a = c .before .before .before .before in
-    stop-inside (a .before .before .before .before .args .s .now) _ _ (a .stop-at .ensures) (c .loop-test .taken)
+    stop-inside (a .before .before .before .args .s .now) _ _ (a .stop-at .ensures) (c .loop-test .taken)
 
 no-shape-requires-2 : tie.Need-no-shape-requires-2 Inv-loop μ-loop
 no-shape-requires-2 c κs = search needs
@@ -60,8 +57,8 @@ mul-set c = search needs
 element-set-from-set : tie.Need-element-set-from-set Inv-loop μ-loop
 element-set-from-set c = search load-room
 
-peek-at-requires-2 : tie.Need-peek-at-requires-2 Inv-loop μ-loop
-peek-at-requires-2 c κs = search needs
+star-at-requires : tie.Need-star-at-requires Inv-loop μ-loop
+star-at-requires c κs = search needs
 
 before-at-requires : tie.Need-before-at-requires Inv-loop μ-loop
 before-at-requires c κs = search needs
@@ -102,6 +99,9 @@ loop-less-2 c = omega (arith, c .before .before .before .before .before .before 
 loop-again-2 : tie.Need-loop-again-2 Inv-loop μ-loop
 loop-again-2 c = search load-once
 
+peek-at-requires : tie.Need-peek-at-requires Inv-loop μ-loop
+peek-at-requires c κs = search needs
+
 shape-by-requires : tie.Need-shape-by-requires Inv-loop μ-loop
 shape-by-requires c κs = search needs
 
@@ -116,7 +116,6 @@ load-spec =
     μ-loop
     no-shape-requires
     returns
-    peek-at-requires
     stop-at-requires
     start-at-requires
     no-marks-requires
@@ -129,7 +128,7 @@ load-spec =
     set-as-requires
     mul-set
     element-set-from-set
-    peek-at-requires-2
+    star-at-requires
     before-at-requires
     mul-before
     element-write-before
@@ -143,5 +142,6 @@ load-spec =
     mark-requires-2
     loop-less-2
     loop-again-2
+    peek-at-requires
     shape-by-requires
     returns-4)
