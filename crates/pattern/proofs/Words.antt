@@ -6,7 +6,7 @@ use mathlib.Core.List.{List, [], _∷_}
 use Prim.Native.Nat.{ℕ, zero, suc, _+_, _-_, _*_, _/_, _%_, _^_, _<_, _≤_}
 use native.Mathlib.Nat.{mod-lt, lt-of-le-of-lt}
 use native.Mathlib.Omega.{arith}
-use lib.Bits.{bitAnd, bitOr, bitXor, and-le-r, or-lt, xor-lt}
+use lib.Bits.{bitAnd, bitOr, bitXor, and-le-r, or-lt, xor-lt, xor-self, xor-zero-l}
 use lib.Dec.{eqb, ltb, leb}
 use lib.ListN.{length, getD, replicate}
 use lib.Pow.{pow-lt, pow-pos, shl-exact}
@@ -107,33 +107,35 @@ module _ (c : ℕ) where
   away i n = none-set (λ k. eqb c (64 * i + k)) (λ k h. ne-eqb c (64 * i + k) (λ z. n (omega arith)))
 
   -- the two words from i on, of which the second begins at `middle`
-  module _ (i middle x y : ℕ) (m : 64 * i + 64 ≡ middle) (low : 64 * i ≤ c) (high : c < 64 * i + 128)
-      (ex : x ≡ pick (leb middle c) 0 (1 * 2 ^ (c % 64) % 2 ^ 64)) (ey : y ≡ pick (ltb c middle) 0 (1 * 2 ^ (c % 64) % 2 ^ 64)) where
-    first-of : x ≡ word (eqb c) i
-    first-of = go (leb middle c) refl
+  module _ (i middle x : ℕ) (m : 64 * i + 64 ≡ middle) (low : 64 * i ≤ c) (high : c < 64 * i + 128)
+      (e : x ≡ pick (leb middle c) 0 (1 * 2 ^ (c % 64) % 2 ^ 64)) where
+    abbrev set-bit : ℕ
+    set-bit = 1 * 2 ^ (c % 64) % 2 ^ 64
+
+    pair : (x ≡ word (eqb c) i) × (bitXor x set-bit ≡ word (eqb c) (i + 1))
+    pair = go (leb middle c) refl
       where
-        go : (t : Bool) → leb middle c ≡ t → x ≡ word (eqb c) i
-        go true t = let l = leb-true middle c t in ex ∙ ap (λ (b : Bool). pick b 0 (1 * 2 ^ (c % 64) % 2 ^ 64)) t ∙ away i (λ z. omega arith)
-        go false t = let l = leb-false middle c t in ex ∙ ap (λ (b : Bool). pick b 0 (1 * 2 ^ (c % 64) % 2 ^ 64)) t ∙ here i (omega arith)
+        go : (t : Bool) → leb middle c ≡ t → (x ≡ word (eqb c) i) × (bitXor x set-bit ≡ word (eqb c) (i + 1))
+        go true t =
+            let l = leb-true middle c t in
+            let q : x ≡ 0 = e ∙ ap (λ (b : Bool). pick b 0 set-bit) t in
+            (q ∙ away i (λ z. omega arith), ap (λ (n : ℕ). bitXor n set-bit) q ∙ xor-zero-l set-bit ∙ here (i + 1) (omega arith))
+        go false t =
+            let l = leb-false middle c t in
+            let q : x ≡ set-bit = e ∙ ap (λ (b : Bool). pick b 0 set-bit) t in
+            (q ∙ here i (omega arith), ap (λ (n : ℕ). bitXor n set-bit) q ∙ xor-self set-bit ∙ away (i + 1) (λ z. omega arith))
 
-    second-of : y ≡ word (eqb c) (i + 1)
-    second-of = go (ltb c middle) refl
-      where
-        go : (t : Bool) → ltb c middle ≡ t → y ≡ word (eqb c) (i + 1)
-        go true t = let l = ltb-true c middle t in ey ∙ ap (λ (b : Bool). pick b 0 (1 * 2 ^ (c % 64) % 2 ^ 64)) t ∙ away (i + 1) (λ z. omega arith)
-        go false t = let l = ltb-false c middle t in ey ∙ ap (λ (b : Bool). pick b 0 (1 * 2 ^ (c % 64) % 2 ^ 64)) t ∙ here (i + 1) (omega arith)
+  pub only-low : (x : ℕ) → c < 128 → x ≡ pick (leb 64 c) 0 (1 * 2 ^ (c % 64) % 2 ^ 64)
+      → x ∷ bitXor x (1 * 2 ^ (c % 64) % 2 ^ 64) ∷ 0 ∷ 0 ∷ [] ≡ words (eqb c)
+  only-low x h e =
+      let p = pair 0 64 x refl (omega arith) (omega arith) e in
+      four-words (eqb c) (p .0) (p .1) (away 2 (λ z. omega arith)) (away 3 (λ z. omega arith))
 
-  pub only-low : (x y : ℕ) → c < 128 → x ≡ pick (leb 64 c) 0 (1 * 2 ^ (c % 64) % 2 ^ 64) → y ≡ pick (ltb c 64) 0 (1 * 2 ^ (c % 64) % 2 ^ 64)
-      → x ∷ y ∷ 0 ∷ 0 ∷ [] ≡ words (eqb c)
-  only-low x y h ex ey =
-      four-words (eqb c) (first-of 0 64 x y refl (omega arith) (omega arith) ex ey) (second-of 0 64 x y refl (omega arith) (omega arith) ex ey)
-      (away 2 (λ z. omega arith)) (away 3 (λ z. omega arith))
-
-  pub only-high : (x y : ℕ) → c < 256 → 128 ≤ c → x ≡ pick (leb 192 c) 0 (1 * 2 ^ (c % 64) % 2 ^ 64) → y ≡ pick (ltb c 192) 0 (1 * 2 ^ (c % 64) % 2 ^ 64)
-      → 0 ∷ 0 ∷ x ∷ y ∷ [] ≡ words (eqb c)
-  only-high x y g h ex ey =
-      four-words (eqb c) (away 0 (λ z. omega arith)) (away 1 (λ z. omega arith))
-      (first-of 2 192 x y refl (omega arith) (omega arith) ex ey) (second-of 2 192 x y refl (omega arith) (omega arith) ex ey)
+  pub only-high : (x : ℕ) → c < 256 → 128 ≤ c → x ≡ pick (leb 192 c) 0 (1 * 2 ^ (c % 64) % 2 ^ 64)
+      → 0 ∷ 0 ∷ x ∷ bitXor x (1 * 2 ^ (c % 64) % 2 ^ 64) ∷ [] ≡ words (eqb c)
+  only-high x g h e =
+      let p = pair 2 192 x refl (omega arith) (omega arith) e in
+      four-words (eqb c) (away 0 (λ z. omega arith)) (away 1 (λ z. omega arith)) (p .0) (p .1)
 
 -- ---- a range more: of the 64 bytes from a place on, those that are not below lo and not above hi
 

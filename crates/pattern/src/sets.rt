@@ -29,9 +29,11 @@ pub(crate) fn only(c: u8) -> [u64; 4]
 {
     let bit: u64 = 1 << (c % 64);
     if c < 128 {
-        return [unless(c >= 64, bit), unless(c < 64, bit), 0, 0];
+        let low = unless(c >= 64, bit);
+        return [low, low ^ bit, 0, 0];
     }
-    [0, 0, unless(c >= 192, bit), unless(c < 192, bit)]
+    let low = unless(c >= 192, bit);
+    [0, 0, low, low ^ bit]
 }
 
 // Of the 64 bytes from `from` on, those that are not below lo.

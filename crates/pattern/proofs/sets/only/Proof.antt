@@ -12,17 +12,11 @@ shl-bit c = search needs
 unless-requires : tie.Need-unless-requires
 unless-requires c κs = search needs
 
-unless-requires-2 : tie.Need-unless-requires-2
-unless-requires-2 c κs = search needs
-
 returns : tie.Need-returns
 returns c = search only-low
 
-unless-requires-3 : tie.Need-unless-requires-3
-unless-requires-3 c κs = search needs
-
-unless-requires-4 : tie.Need-unless-requires-4
-unless-requires-4 c κs = search needs
+unless-requires-2 : tie.Need-unless-requires-2
+unless-requires-2 c κs = search needs
 
 returns-2 : tie.Need-returns-2
 returns-2 c = search only-high
@@ -34,8 +28,6 @@ only-spec =
     cast-bit
     shl-bit
     unless-requires
-    unless-requires-2
     returns
-    unless-requires-3
-    unless-requires-4
+    unless-requires-2
     returns-2)
