@@ -6,8 +6,8 @@ use Rattle.fitting.proofs.group_holds.Tie as tie
 read-member-requires : tie.Need-read-member-requires
 read-member-requires c κs = search needs
 
-row-in-requires : tie.Need-row-in-requires
-row-in-requires c κs = search needs
+in-rows-requires : tie.Need-in-rows-requires
+in-rows-requires c κs = search needs
 
 returns : tie.Need-returns
 returns c = search holds-out
@@ -20,4 +20,4 @@ returns-2 c = search holds-in
 
 pub group-holds-spec : {M : Type 1} → statement M
 group-holds-spec =
-    tie.close (tie.spec read-member-requires row-in-requires returns group-hits-requires returns-2)
+    tie.close (tie.spec read-member-requires in-rows-requires returns group-hits-requires returns-2)

@@ -6,8 +6,8 @@ use Rattle.fitting.proofs.member_hits.Tie as tie
 read-member-requires : tie.Need-read-member-requires
 read-member-requires c κs = search needs
 
-row-in-requires : tie.Need-row-in-requires
-row-in-requires c κs = search needs
+in-rows-requires : tie.Need-in-rows-requires
+in-rows-requires c κs = search needs
 
 returns : tie.Need-returns
 returns c = search hits-out
@@ -30,4 +30,4 @@ returns-3 c = search hits-not
 pub member-hits-spec : {M : Type 1} → statement M
 member-hits-spec =
     tie.close
-    (tie.spec read-member-requires row-in-requires returns sub-b cast-b shr-b returns-2 returns-3)
+    (tie.spec read-member-requires in-rows-requires returns sub-b cast-b shr-b returns-2 returns-3)

@@ -14,17 +14,17 @@ abbrev μ-loop : tie.MeasureT-loop
 loop-holds : tie.Need-loop-holds Inv-loop μ-loop
 loop-holds c = (search needs, search back-first)
 
-sub-in-rows : tie.Need-sub-in-rows Inv-loop μ-loop
-sub-in-rows c = search needs
+sub-of-rows : tie.Need-sub-of-rows Inv-loop μ-loop
+sub-of-rows c = search needs
 
-mul-in-rows : tie.Need-mul-in-rows Inv-loop μ-loop
-mul-in-rows c = search needs
+mul-of-rows : tie.Need-mul-of-rows Inv-loop μ-loop
+mul-of-rows c = search needs
 
-add-in-rows : tie.Need-add-in-rows Inv-loop μ-loop
-add-in-rows c = search needs
+add-of-rows : tie.Need-add-of-rows Inv-loop μ-loop
+add-of-rows c = search needs
 
-in-rows-requires : tie.Need-in-rows-requires Inv-loop μ-loop
-in-rows-requires c κs = search needs
+of-rows-requires : tie.Need-of-rows-requires Inv-loop μ-loop
+of-rows-requires c κs = search needs
 
 returns : tie.Need-returns Inv-loop μ-loop
 returns c = search needs
@@ -48,10 +48,10 @@ skip-back-spec =
     Inv-loop
     μ-loop
     loop-holds
-    sub-in-rows
-    mul-in-rows
-    add-in-rows
-    in-rows-requires
+    sub-of-rows
+    mul-of-rows
+    add-of-rows
+    of-rows-requires
     returns
     sub-k
     loop-less
