@@ -1,5 +1,5 @@
-/* How long the check of an image takes as the image grows: each family doubles. Where long strings are named by
- * many fields ("long ones") it grows faster than the image, since each field that names a string judges it again. */
+/* How long the check of an image takes as the image grows: each family doubles. A string is judged once, so rows that name long
+ * ones ("long ones") take no longer than others. */
 #include <stddef.h>
 #include <stdint.h>
 #include <stdio.h>
@@ -38,7 +38,7 @@ static void rows(uint32_t n) {
     header_rows(n, 65535);
 }
 
-/* The dearest rows there are: a string is judged at each field that names it, and these name 1,020 bytes twice. */
+/* Each row names the same 1,020 bytes twice. */
 static void long_patterns(uint32_t n) {
     begin(1);
     string("[abcdefghijklmno]", 60);

@@ -2,49 +2,125 @@
 use Prim.Native.Nat.{ℕ, zero, suc, _+_, _-_, _≤_, _<_}
 use native.Mathlib.Omega.{arith}
 use native.Mathlib.Nat.{add-sub-cancel-left, le-of-suc-le-suc, not-suc-le-zero}
-use mathlib.Core.Path.{_≡_, refl, sym, ap, _∙_}
+use mathlib.Core.Path.{_≡_, refl, sym, ap, ap₂, _∙_}
 use mathlib.Core.Bool.{Bool, true, false, not}
 use mathlib.Core.List.{List, [], _∷_, map}
-use lib.ListN.{length, getD, take, drop, length-map}
+use lib.Bits.{bitAnd, bitOr}
+use lib.ListN.{length, getD, take, drop, set, length-map, length-set}
 use lib.Dec.{eqb}
-use lib.Seq.{length-take-le, getD-take}
+use lib.Seq.{length-take-le, getD-take, getD-set-same, getD-set-other}
+use borrow.Author.Count.{below-none, below-more}
 use borrow.Author.Tests.{eq-eqb, ne-eqb, lt-ltb, le-ltb}
-use Rattle.octets.specs.Lists.{empty}
+use Rattle.octets.specs.Lists.{pick, empty}
 use Rattle.octets.specs.Bytes.{token}
 use Rattle.pattern.specs.Answers.{is-pattern}
 use Rattle.profile.specs.Out.{good, bad, _>>=_}
-use Rattle.profile.specs.Places.{u16, word, text-at, texts, usable, named, exactly}
-use Rattle.profile.specs.Answers.{Table}
+use Rattle.profile.specs.Places.{u16, word, text-at, texts, usable, uses-of, named, exactly}
+use Rattle.profile.specs.Answers.{Table, Known}
 use Rattle.profile.proofs.Laws.{is, refused}
 
 pub text-is : (s : List ℕ) (o n : ℕ) → n ≡ word s o → take (o + 2 + n - (o + 2)) (drop (o + 2) s) ≡ text-at s o
 text-is s o n e = rw (e, add-sub-cancel-left)
 
--- a string by its use
-module _ (p : ℕ) (t : List ℕ) where
-  pub use-token : (b : Bool) → p ≡ 1 → b ≡ token t → b ≡ usable p t
-  unfolding usable
-  use-token b e f = f ∙ sym (ap (λ (k : ℕ). usable k t) e)
+-- ---- what a string may be used for
 
-  pub use-header : (b : Bool) → p ≡ 2 → b ≡ is-pattern t → b ≡ usable p t
-  unfolding usable
-  use-header b e f = f ∙ sym (ap (λ (k : ℕ). usable k t) e)
+none : (t : List ℕ) → eqb (length t) 0 ≡ empty t
+none [] = refl
+none (b ∷ t) = ne-eqb (suc (length t)) 0 (λ e. omega arith)
 
-  pub use-line : (b : Bool) → p ≡ 4 → b ≡ is-pattern t → b ≡ usable p t
-  unfolding usable
-  use-line b e f = f ∙ sym (ap (λ (k : ℕ). usable k t) e)
+pub uses-made : (t : List ℕ) (x y z : ℕ) (b c : Bool) → x ≡ pick (not (eqb (length t) 0)) 1 0 → b ≡ token t → y ≡ pick b 2 0 → c ≡ is-pattern t → z ≡ pick c 4 0
+    → bitOr (bitOr x y) z ≡ uses-of t
+unfolding uses-of
+uses-made t x y z b c ex eb ey ec ez =
+    ap₂ bitOr (ap₂ bitOr (ex ∙ ap (λ (e : Bool). pick (not e) 1 0) (none t) ∙ turn (empty t)) (ey ∙ ap (λ (e : Bool). pick e 2 0) eb))
+    (ez ∙ ap (λ (e : Bool). pick e 4 0) ec)
+  where
+    turn : (e : Bool) → _≡_ {A = ℕ} (pick (not e) 1 0) (pick e 0 1)
+    turn true = refl
+    turn false = refl
+
+-- each bit by itself
+abbrev bits : Bool → Bool → Bool → ℕ
+bits a b c = bitOr (bitOr (pick a 0 1) (pick b 2 0)) (pick c 4 0)
+
+bit-1 : (a b c : Bool) → not (eqb (bitAnd (bits a b c) 1) 0) ≡ not a
+bit-1 true true true = refl
+bit-1 true true false = refl
+bit-1 true false true = refl
+bit-1 true false false = refl
+bit-1 false true true = refl
+bit-1 false true false = refl
+bit-1 false false true = refl
+bit-1 false false false = refl
+
+bit-2 : (a b c : Bool) → not (eqb (bitAnd (bits a b c) 2) 0) ≡ b
+bit-2 true true true = refl
+bit-2 true true false = refl
+bit-2 true false true = refl
+bit-2 true false false = refl
+bit-2 false true true = refl
+bit-2 false true false = refl
+bit-2 false false true = refl
+bit-2 false false false = refl
+
+bit-4 : (a b c : Bool) → not (eqb (bitAnd (bits a b c) 4) 0) ≡ c
+bit-4 true true true = refl
+bit-4 true true false = refl
+bit-4 true false true = refl
+bit-4 true false false = refl
+bit-4 false true true = refl
+bit-4 false true false = refl
+bit-4 false false true = refl
+bit-4 false false false = refl
+
+module _ (p u : ℕ) (t : List ℕ) (e : u ≡ uses-of t) where
+  pub use-token : p ≡ 1 → not (eqb (bitAnd u 2) 0) ≡ usable p t
+  unfolding usable uses-of
+  use-token q = ap (λ (n : ℕ). not (eqb (bitAnd n 2) 0)) e ∙ bit-2 (empty t) (token t) (is-pattern t) ∙ sym (ap (λ (k : ℕ). usable k t) q)
+
+  pub use-header : p ≡ 2 → not (eqb (bitAnd u 4) 0) ≡ usable p t
+  unfolding usable uses-of
+  use-header q = ap (λ (n : ℕ). not (eqb (bitAnd n 4) 0)) e ∙ bit-4 (empty t) (token t) (is-pattern t) ∙ sym (ap (λ (k : ℕ). usable k t) q)
+
+  pub use-line : p ≡ 4 → not (eqb (bitAnd u 4) 0) ≡ usable p t
+  unfolding usable uses-of
+  use-line q = ap (λ (n : ℕ). not (eqb (bitAnd n 4) 0)) e ∙ bit-4 (empty t) (token t) (is-pattern t) ∙ sym (ap (λ (k : ℕ). usable k t) q)
 
   pub use-any : p ≡ 5 → true ≡ usable p t
   unfolding usable
-  use-any e = sym (ap (λ (k : ℕ). usable k t) e)
+  use-any q = sym (ap (λ (k : ℕ). usable k t) q)
 
-  pub use-other : (p ≡ 1 → ⊥) → (p ≡ 2 → ⊥) → (p ≡ 4 → ⊥) → (p ≡ 5 → ⊥) → not (eqb (length t) 0) ≡ usable p t
-  unfolding usable
-  use-other e1 e2 e4 e5 = rw (ne-eqb p 1 e1, ne-eqb p 2 e2, ne-eqb p 4 e4, ne-eqb p 5 e5) (ap not (none t))
-    where
-      none : (t : List ℕ) → eqb (length t) 0 ≡ empty t
-      none [] = refl
-      none (b ∷ t) = ne-eqb (suc (length t)) 0 (λ e. omega arith)
+  pub use-other : (p ≡ 1 → ⊥) → (p ≡ 2 → ⊥) → (p ≡ 4 → ⊥) → (p ≡ 5 → ⊥) → not (eqb (bitAnd u 1) 0) ≡ usable p t
+  unfolding usable uses-of
+  use-other e1 e2 e4 e5 =
+      ap (λ (n : ℕ). not (eqb (bitAnd n 1) 0)) e ∙ bit-1 (empty t) (token t) (is-pattern t)
+      ∙ rw (ne-eqb p 1 e1, ne-eqb p 2 e2, ne-eqb p 4 e4, ne-eqb p 5 e5) refl
+
+-- the strings below k are judged
+pub record Told (s : List ℕ) (n : ℕ) (table uses : List ℕ) (k : ℕ) : Type 0 where
+  pub count : k ≤ n
+  pub each : length uses ≡ 1024
+  pub tells : (i : ℕ) → i < k → getD uses i 0 ≡ uses-of (text-at s (getD table i 0))
+
+pub told-none : (s : List ℕ) (n : ℕ) (table uses : List ℕ) → length uses ≡ 1024 → Told s n table uses 0
+told-none s n table uses h = record { count = omega arith; each = h; tells = below-none (λ i. getD uses i 0 ≡ uses-of (text-at s (getD table i 0))) }
+
+module _ (s : List ℕ) (n : ℕ) (table uses : List ℕ) (k : ℕ) (tb : Table s n table) (d : Told s n table uses k) where
+  pub told-more : (o : ℕ) (t : List ℕ) (v : ℕ) → k < n → o ≡ getD table k 0 → t ≡ text-at s o → v ≡ uses-of t → Told s n table (set uses k v) (k + 1)
+  told-more o t v h eo et ev =
+      let room : k < length uses = omega (arith, tb .count, d .each) in
+      record {
+        count = omega arith;
+        each = length-set uses k v ∙ d .each;
+        tells = below-more (λ i. getD (set uses k v) i 0 ≡ uses-of (text-at s (getD table i 0))) k
+            (λ i l. getD-set-other uses k i v 0 (omega arith) ∙ d .tells i l)
+            (getD-set-same uses k v 0 room ∙ ev ∙ ap uses-of (et ∙ ap (text-at s) eo));
+      }
+
+  pub told-all : n ≤ k → Known s n table uses
+  told-all h = record { tabled = tb; each = d .each; tells = λ i l. d .tells i (omega (arith, d .count)) }
+
+-- ---- a field that names a string
 
 pub getD-map-in : {A B : Type 0} (f : A → B) (l : List A) (i : ℕ) (d : A) (e : B) → i < length l → getD (map f l) i e ≡ f (getD l i d)
 getD-map-in f [] i d e h = absurd (not-suc-le-zero h)
@@ -70,13 +146,19 @@ module _ (s : List ℕ) (n : ℕ) (table : List ℕ) (tb : Table s n table) wher
     unfolding named
     named-out i e h = rw (e, texts-length, le-ltb i n h)
 
-    pub named-wrong : (i o : ℕ) (t : List ℕ) (b : Bool) → u16 s at ≡ good i → i < n → o ≡ getD table i 0 → t ≡ text-at s o → b ≡ usable p t → b ≡ false → bad 5 at ≡ named s (texts s n table) p at
-    unfolding named
-    named-wrong i o t b e h eo et eb f = rw (e, texts-length, lt-ltb i n h, texts-at i h, ← eo, ← et, ← eb, f)
+    -- v: what the string may be used for, b: whether it may be used so
+    module _ (uses : List ℕ) (kn : Known s n table uses) (i v : ℕ) (b : Bool) (e : u16 s at ≡ good i) (h : i < n) (ev : v ≡ getD uses i 0)
+        (eb : (t : List ℕ) → v ≡ uses-of t → b ≡ usable p t) where
+      judged : usable p (getD (texts s n table) i []) ≡ b
+      judged = ap (usable p) (texts-at i h) ∙ sym (eb (text-at s (getD table i 0)) (ev ∙ kn .tells i h))
 
-    pub named-yes : (i o : ℕ) (t : List ℕ) (b : Bool) → u16 s at ≡ good i → i < n → o ≡ getD table i 0 → t ≡ text-at s o → b ≡ usable p t → b ≡ true → good i ≡ named s (texts s n table) p at
-    unfolding named
-    named-yes i o t b e h eo et eb f = rw (e, texts-length, lt-ltb i n h, texts-at i h, ← eo, ← et, ← eb, f)
+      pub named-wrong : b ≡ false → bad 5 at ≡ named s (texts s n table) p at
+      unfolding named
+      named-wrong f = rw (e, texts-length, lt-ltb i n h, judged, f)
+
+      pub named-yes : b ≡ true → good i ≡ named s (texts s n table) p at
+      unfolding named
+      named-yes f = rw (e, texts-length, lt-ltb i n h, judged, f)
 
 module _ (s : List ℕ) (v at : ℕ) where
   pub exactly-yes : (i : ℕ) → u16 s at ≡ good i → i ≡ v → good i ≡ exactly s v at

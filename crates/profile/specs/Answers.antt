@@ -8,7 +8,7 @@ use Rattle.profile.specs.Out.{Out, good, bad, must, _>>=_, _>>_}
 use Rattle.profile.specs.Places.{Profile, u8, counted, reading-strings, reading-rows, reading-members, reading-criteria, placed, has, texts, Inside, spaced, row-numbers, member-numbers, criterion-numbers}
 use Rattle.profile.specs.declared.Row.{Row}
 use Rattle.profile.specs.declared.Member.{Member}
-use Rattle.profile.specs.Places.{word}
+use Rattle.profile.specs.Places.{word, text-at, uses-of}
 use Rattle.profile.specs.Decoded.{offsets, past, layout}
 use Rattle.profile.specs.declared.Layout.{Layout}
 use Rattle.profile.specs.declared.Judged.{Judged}
@@ -37,6 +37,12 @@ pub record Table (s : List ℕ) (n : ℕ) (table : List ℕ) : Type 0 where
   pub count : n ≤ 1024
   pub long : length table ≡ 1024
   pub inside : Inside s n table
+
+-- and what each string may be used for
+pub record Known (s : List ℕ) (n : ℕ) (table uses : List ℕ) : Type 0 where
+  pub tabled : Table s n table
+  pub each : length uses ≡ 1024
+  pub tells : (i : ℕ) → i < n → getD uses i 0 ≡ uses-of (text-at s (getD table i 0))
 
 abbrev pub pair-out : ℕ → Pair → Out (Member × ℕ)
 pair-out at (Both r g) = good (record { row = r; group = g }, at + 4)

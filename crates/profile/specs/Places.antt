@@ -3,6 +3,7 @@
 use Prim.Native.Nat.{ℕ, zero, suc, _+_, _*_, _≤_, _<_}
 use mathlib.Core.Bool.{Bool, true, false, not, cond, _&&_, _||_}
 use mathlib.Core.List.{List, [], _∷_, _++_, map}
+use lib.Bits.{bitOr}
 use lib.ListN.{length, getD, take, drop}
 use lib.Dec.{leb, ltb, eqb}
 use Rattle.octets.specs.Lists.{pick, empty}
@@ -94,6 +95,10 @@ reading-strings s n at = many (λ _. string s) n at []
 -- what a string must be for its use: 0 RequestURI or server, 1 Method, 2 and 4 patterns, 5 service information
 unfoldable pub usable : ℕ → List ℕ → Bool
 usable purpose t = pick (eqb purpose 1) (token t) (pick (eqb purpose 2 || eqb purpose 4) (is-pattern t) (eqb purpose 5 || not (empty t)))
+
+-- all that a string may be used for, as bits: 1 RequestURI or server, 2 Method, 4 pattern
+unfoldable pub uses-of : List ℕ → ℕ
+uses-of t = bitOr (bitOr (pick (empty t) 0 1) (pick (token t) 2 0)) (pick (is-pattern t) 4 0)
 
 abbrev pub absent : ℕ
 absent = 65535

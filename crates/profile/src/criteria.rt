@@ -2,7 +2,7 @@
 ghost use mathlib.Core.Path.{_≡_};
 ghost use Prim.Native.Nat.{_≤_};
 ghost use Rattle.profile.specs.Places.{texts, ends, long, row-start, right-count, row-count, trigger, rest, reading-criteria};
-ghost use Rattle.profile.specs.Answers.{field-out, check-out, passed, Table};
+ghost use Rattle.profile.specs.Answers.{field-out, check-out, passed, Known};
 use crate::Field;
 use crate::fields::exactly_at;
 use crate::fields::long_at;
@@ -79,8 +79,15 @@ fn trigger_at(s: &[u8], rows: usize, at: usize) -> Field
 }
 
 // A criterion after its priority: where it ends, or the refusal.
-fn rest_at(s: &[u8], table: &[u16; 1024], n: usize, rows: usize, at: usize) -> Field
-    requires { ⌜ (at ≤ 180000) × Table (now s) n (now table) ⌝ }
+fn rest_at(
+    s: &[u8],
+    table: &[u16; 1024],
+    uses: &[u8; 1024],
+    n: usize,
+    rows: usize,
+    at: usize,
+) -> Field
+    requires { ⌜ (at ≤ 180000) × Known (now s) n (now table) (now uses) ⌝ }
     ensures { λ r. ⌜ field-out r ≡ ends (rest (now (s .entry)) (texts (now (s .entry)) n (now (table .entry))) rows (long (now (s .entry)) at) at) ⌝ }
 {
     let part = up_to(s, at + 4, 2);
@@ -91,7 +98,7 @@ fn rest_at(s: &[u8], table: &[u16; 1024], n: usize, rows: usize, at: usize) -> F
     let Field::Is(_) = trigger else {
         return trigger;
     };
-    let server = index_at(s, table, n, 0, at + 10);
+    let server = index_at(s, table, uses, n, 0, at + 10);
     let Field::Is(_) = server else {
         return server;
     };
@@ -99,7 +106,7 @@ fn rest_at(s: &[u8], table: &[u16; 1024], n: usize, rows: usize, at: usize) -> F
     let Field::Is(_) = default else {
         return default;
     };
-    let service = index_or_absent(s, table, n, 5, at + 13);
+    let service = index_or_absent(s, table, uses, n, 5, at + 13);
     let Field::Is(_) = service else {
         return service;
     };
@@ -111,12 +118,13 @@ fn rest_at(s: &[u8], table: &[u16; 1024], n: usize, rows: usize, at: usize) -> F
 pub(crate) fn criteria(
     s: &[u8],
     table: &[u16; 1024],
+    uses: &[u8; 1024],
     strs: usize,
     rows: usize,
     n: usize,
     start: usize,
 ) -> Field
-    requires { ⌜ (start ≤ 150000) × (n ≤ 64) × Table (now s) strs (now table) ⌝ }
+    requires { ⌜ (start ≤ 150000) × (n ≤ 64) × Known (now s) strs (now table) (now uses) ⌝ }
     ensures { λ r. ⌜ field-out r ≡ ends (reading-criteria (now (s .entry)) (texts (now (s .entry)) strs (now (table .entry))) rows n start) ⌝ }
 {
     let mut at = start;
@@ -135,7 +143,7 @@ pub(crate) fn criteria(
             }
             i += 1;
         }
-        let g = rest_at(s, table, strs, rows, at);
+        let g = rest_at(s, table, uses, strs, rows, at);
         let Field::Is(_) = g else {
             return g;
         };

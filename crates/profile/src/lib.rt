@@ -7,7 +7,7 @@ ghost use Rattle.profile.specs.Places.{texts, spaced, row-numbers, membe
 ghost use Rattle.profile.specs.Image.{refused};
 ghost use Rattle.profile.specs.Kept.{kept, Judges};
 ghost use Rattle.profile.specs.Decoded.{stored-in, string-of, laid-criteria, laid-members, laid-rows};
-ghost use Rattle.profile.specs.Answers.{field-out, LaidAs, Laid, Table, opening, criteria-on, members-on, rows-on, judged-out, refusal-of, Fit};
+ghost use Rattle.profile.specs.Answers.{field-out, LaidAs, Laid, Table, Known, opening, criteria-on, members-on, rows-on, judged-out, refusal-of, Fit};
 
 mod criteria;
 mod fields;
@@ -23,6 +23,7 @@ pub use crate::fields::priority;
 use crate::fields::wide;
 use crate::members::all_placed;
 use crate::members::members;
+use crate::strings::judge_strings;
 use crate::strings::strings;
 use crate::strings::text;
 use crate::trigger_rows::rows;
@@ -126,8 +127,8 @@ fn open_image(s: &[u8]) -> Field
 }
 
 // From section 4 on.
-fn from_criteria(s: &[u8], table: &[u16; 1024], y: Layout, at: usize) -> Judged
-    requires { ⌜ (at ≤ 120000) × Table (now s) (y .strings) (now table) ⌝ }
+fn from_criteria(s: &[u8], table: &[u16; 1024], uses: &[u8; 1024], y: Layout, at: usize) -> Judged
+    requires { ⌜ (at ≤ 120000) × Known (now s) (y .strings) (now table) (now uses) ⌝ }
     ensures { λ r. ⌜ judged-out r (now (s .entry)) (now (table .entry)) ≡ criteria-on (now (s .entry)) (texts (now (s .entry)) (y .strings) (now (table .entry))) (spaced (row-numbers (now (s .entry))) 7 (y .rows) (y .«row_count»)) (spaced (member-numbers (now (s .entry))) 4 (y .members) (y .«member_count»)) (y .«row_count») at ⌝ }
     ensures fit { λ r. ⌜ Fit r (now (s .entry)) (now (table .entry)) ⌝ }
     ensures laid { λ r. ⌜ LaidAs r (laid-criteria (now (s .entry)) y at) ⌝ }
@@ -136,7 +137,7 @@ fn from_criteria(s: &[u8], table: &[u16; 1024], y: Layout, at: usize) -> Judged
     let Field::Is(n) = f else {
         return refusal(f);
     };
-    let g = criteria(s, table, y.strings, y.row_count, n, at + 2);
+    let g = criteria(s, table, uses, y.strings, y.row_count, n, at + 2);
     let Field::Is(end) = g else {
         return refusal(g);
     };
@@ -162,12 +163,13 @@ fn from_criteria(s: &[u8], table: &[u16; 1024], y: Layout, at: usize) -> Judged
 fn from_members(
     s: &[u8],
     table: &[u16; 1024],
+    uses: &[u8; 1024],
     strings: usize,
     rows: usize,
     n: usize,
     at: usize,
 ) -> Judged
-    requires { ⌜ (at ≤ 50000) × (rows ≤ 50000) × (n ≤ 2048) × Table (now s) strings (now table) ⌝ }
+    requires { ⌜ (at ≤ 50000) × (rows ≤ 50000) × (n ≤ 2048) × Known (now s) strings (now table) (now uses) ⌝ }
     ensures { λ r. ⌜ judged-out r (now (s .entry)) (now (table .entry)) ≡ members-on (now (s .entry)) (texts (now (s .entry)) strings (now (table .entry))) (spaced (row-numbers (now (s .entry))) 7 rows n) n rows at ⌝ }
     ensures fit { λ r. ⌜ Fit r (now (s .entry)) (now (table .entry)) ⌝ }
     ensures laid { λ r. ⌜ LaidAs r (laid-members (now (s .entry)) strings rows n at) ⌝ }
@@ -194,7 +196,7 @@ fn from_members(
         criteria: 0,
         criterion_count: 0,
     };
-    from_criteria(s, table, y, next)
+    from_criteria(s, table, uses, y, next)
 }
 
 // From section 2 on.
@@ -208,11 +210,13 @@ fn from_rows(s: &[u8], table: &[u16; 1024], strings: usize, at: usize) -> Judged
     let Field::Is(n) = f else {
         return refusal(f);
     };
-    let g = rows(s, table, strings, n, at + 2);
+    let mut uses = [0u8; 1024];
+    judge_strings(s, table, strings, &mut uses);
+    let g = rows(s, table, &uses, strings, n, at + 2);
     let Field::Is(next) = g else {
         return refusal(g);
     };
-    from_members(s, table, strings, at + 2, n, next)
+    from_members(s, table, &uses, strings, at + 2, n, next)
 }
 
 // The judgement of an image. Of an accepted one the table has the strings' offsets.

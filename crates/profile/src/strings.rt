@@ -1,9 +1,11 @@
 // Section one: the strings, and the fields that name one.
 ghost use mathlib.Core.Path.{_≡_};
-ghost use Prim.Native.Nat.{_+_, _≤_};
+ghost use mathlib.Core.List.{List};
+ghost use Prim.Native.Nat.{ℕ, _+_, _≤_};
 ghost use lib.ListN.{length};
-ghost use Rattle.profile.specs.Places.{sized, named, named-or-absent, usable, word, text-at, texts};
-ghost use Rattle.profile.specs.Answers.{field-out, Tabled, Filled, Table};
+ghost use Rattle.octets.specs.Lists.{pick};
+ghost use Rattle.profile.specs.Places.{sized, named, named-or-absent, usable, uses-of, word, text-at, texts};
+ghost use Rattle.profile.specs.Answers.{field-out, Tabled, Filled, Table, Known};
 use crate::Field;
 use crate::fields::count_at;
 use crate::fields::number;
@@ -63,28 +65,67 @@ pub(crate) fn text(s: &[u8], o: usize) -> &[u8]
     &s[a..e]
 }
 
+fn if_so(flag: bool, value: u8) -> u8
+    ensures { λ r. ⌜ r ≡ pick flag value 0 ⌝ }
+{
+    if flag {
+        return value;
+    }
+    0
+}
+
+// What a string may be used for, as bits: 1 RequestURI or server, 2 Method, 4 pattern.
+fn uses_of(t: &[u8]) -> u8
+    ensures { λ r. ⌜ r ≡ uses-of (now (t .entry)) ⌝ }
+{
+    let some = if_so(t.len() != 0, 1);
+    let method = if_so(octets::is_token(t), 2);
+    let pattern = if_so(pattern::is_pattern(t), 4);
+    some | method | pattern
+}
+
+// Judges each string once, however many fields name it.
+pub(crate) fn judge_strings(s: &[u8], table: &[u16; 1024], n: usize, uses: &mut [u8; 1024])
+    requires { ⌜ Table (now s) n (now table) × (length (now uses) ≡ 1024) ⌝ }
+    ensures { λ r. ⌜ Known (now (s .entry)) n (now (table .entry)) (now (uses .exit)) ⌝ }
+{
+    let mut k: usize = 0;
+    while k < n {
+        let t = text(s, octets::as_index(table[k]));
+        uses[k] = uses_of(t);
+        k += 1;
+    }
+}
+
 // Whether a string may be used so: 0 RequestURI or server, 1 Method, 2 and 4 patterns, 5 service information.
-fn fits_use(t: &[u8], purpose: usize) -> bool
-    ensures { λ r. ⌜ r ≡ usable purpose (now (t .entry)) ⌝ }
+fn fits_use(uses: u8, purpose: usize) -> bool
+    ensures { λ r. ⌜ ((t : List ℕ) → uses ≡ uses-of t → r ≡ usable purpose t) ⌝ }
 {
     if purpose == 1 {
-        return octets::is_token(t);
+        return uses & 2 != 0;
     }
     if purpose == 2 {
-        return pattern::is_pattern(t);
+        return uses & 4 != 0;
     }
     if purpose == 4 {
-        return pattern::is_pattern(t);
+        return uses & 4 != 0;
     }
     if purpose == 5 {
         return true;
     }
-    t.len() != 0
+    uses & 1 != 0
 }
 
-// A string index in the table, of a string that may be used so.
-pub(crate) fn index_at(s: &[u8], table: &[u16; 1024], n: usize, purpose: usize, at: usize) -> Field
-    requires { ⌜ (at ≤ 200000) × Table (now s) n (now table) ⌝ }
+// A string index in the table, of a string that may be used so. The table is named for the promise alone.
+pub(crate) fn index_at(
+    s: &[u8],
+    table: &[u16; 1024],
+    uses: &[u8; 1024],
+    n: usize,
+    purpose: usize,
+    at: usize,
+) -> Field
+    requires { ⌜ (at ≤ 200000) × Known (now s) n (now table) (now uses) ⌝ }
     ensures { λ r. ⌜ field-out r ≡ named (now (s .entry)) (texts (now (s .entry)) n (now (table .entry))) purpose at ⌝ }
 {
     match word_at(s, at) {
@@ -95,9 +136,7 @@ pub(crate) fn index_at(s: &[u8], table: &[u16; 1024], n: usize, purpose: usize, 
                     place: at,
                 };
             }
-            let o = octets::as_index(table[i]);
-            let t = text(s, o);
-            if fits_use(t, purpose) {
+            if fits_use(uses[i], purpose) {
                 Field::Is(i)
             } else {
                 Field::Refused {
@@ -114,11 +153,12 @@ pub(crate) fn index_at(s: &[u8], table: &[u16; 1024], n: usize, purpose: usize, 
 pub(crate) fn index_or_absent(
     s: &[u8],
     table: &[u16; 1024],
+    uses: &[u8; 1024],
     n: usize,
     purpose: usize,
     at: usize,
 ) -> Field
-    requires { ⌜ (at ≤ 200000) × Table (now s) n (now table) ⌝ }
+    requires { ⌜ (at ≤ 200000) × Known (now s) n (now table) (now uses) ⌝ }
     ensures { λ r. ⌜ field-out r ≡ named-or-absent (now (s .entry)) (texts (now (s .entry)) n (now (table .entry))) purpose at ⌝ }
 {
     match word_at(s, at) {
@@ -126,7 +166,7 @@ pub(crate) fn index_or_absent(
             if i == 65535 {
                 Field::Is(i)
             } else {
-                index_at(s, table, n, purpose, at)
+                index_at(s, table, uses, n, purpose, at)
             }
         }
         Field::Refused { number, place } => Field::Refused { number, place },

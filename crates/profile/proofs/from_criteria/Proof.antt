@@ -42,11 +42,11 @@ refusal-requires-2 c κs = search needs
 returns-2 : tie.Need-returns-2
 returns-2 c = (search crit-2, (search fit-refused, search laid-refused))
 
-add-t12 : tie.Need-add-t12
-add-t12 c = search needs
+add-t13 : tie.Need-add-t13
+add-t13 c = search needs
 
 returns-3 : tie.Need-returns-3
-returns-3 c = (search crit-3, ((c .before .before .before .before .before .before .before .before .before .before .pre .1, search fit-end), search laid-end))
+returns-3 c = (search crit-3, ((c .before .before .before .before .before .before .before .before .before .before .pre .1 .tabled, search fit-end), search laid-end))
 
 returns-4 : tie.Need-returns-4
 returns-4 c = (search crit-4, (tt, record { says = tt }))
@@ -66,6 +66,6 @@ from-criteria-spec =
     enum-told-2
     refusal-requires-2
     returns-2
-    add-t12
+    add-t13
     returns-3
     returns-4)

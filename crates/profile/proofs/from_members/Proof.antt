@@ -57,8 +57,8 @@ refusal-requires-3 c κs = search needs
 returns-3 : tie.Need-returns-3
 returns-3 c = (search mem-3, (search fit-refused, search laid-refused))
 
-add-t14 : tie.Need-add-t14
-add-t14 c = search needs
+add-t15 : tie.Need-add-t15
+add-t15 c = search needs
 
 from-criteria-requires : tie.Need-from-criteria-requires
 from-criteria-requires c κs =
@@ -98,6 +98,6 @@ from-members-spec =
     enum-told-4
     refusal-requires-3
     returns-3
-    add-t14
+    add-t15
     from-criteria-requires
     returns-4)

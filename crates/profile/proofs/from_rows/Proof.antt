@@ -22,13 +22,17 @@ refusal-requires c κs = search needs
 returns : tie.Need-returns
 returns c = (search rows-f, (search fit-refused, search laid-refused))
 
+judge-strings-requires : tie.Need-judge-strings-requires
+judge-strings-requires c κs = search needs
+
 add-rows : tie.Need-add-rows
 add-rows c = search needs
 
 rows-requires : tie.Need-rows-requires
 rows-requires c κs =
-    let f = c .before in
-    (omega arith, omega (arith, counted-inv _ _ _ _ (is (f .before .before .count-at .ensures) (f .f .given .1))), f .before .before .before .before .pre .1)
+    let j = c .before in
+    let f = j .before .before .before in
+    (omega arith, omega (arith, counted-inv _ _ _ _ (is (f .before .before .count-at .ensures) (f .f .given .1))), j .judge-strings .ensures)
 
 enum-known-g : tie.Need-enum-known-g
 enum-known-g c = search needs
@@ -47,17 +51,19 @@ add-from-members c = search needs
 
 from-members-requires : tie.Need-from-members-requires
 from-members-requires c κs =
-    let g = c .before in
-    let f = g .before .before .before .before in
+    let g = c .before .before in
+    let j = g .before .before .before .before in
+    let f = j .before .before .before in
     let at-count = f .before .before in
     let n = counted-inv _ _ _ _ (is (at-count .count-at .ensures) (f .f .given .1)) in
     let e = rows-are _ _ _ _ _ (is (g .before .before .rows .ensures) (g .g .given .1)) .1 in
-    (omega arith, omega arith, omega arith, at-count .before .before .pre .1)
+    (omega arith, omega arith, omega arith, j .judge-strings .ensures)
 
 returns-3 : tie.Need-returns-3
 returns-3 c =
-    let g = c .before .before in
-    let f = g .before .before .before .before in
+    let g = c .before .before .before in
+    let j = g .before .before .before .before in
+    let f = j .before .before .before in
     let n = counted-inv _ _ _ _ (is (f .before .before .count-at .ensures) (f .f .given .1)) in
     let e = rows-are _ _ _ _ _ (is (g .before .before .rows .ensures) (g .g .given .1)) .1 in
     (search rows-h, (c .from-members .ensures .1 .0, laid-on-rows (now (f .before .before .before .before .args .s)) _ _ _ _ _ (c .from-members .ensures .1 .1) (n .0) e))
@@ -71,6 +77,7 @@ from-rows-spec =
     enum-told
     refusal-requires
     returns
+    judge-strings-requires
     add-rows
     rows-requires
     enum-known-g

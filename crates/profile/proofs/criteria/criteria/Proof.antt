@@ -11,16 +11,16 @@ use Rattle.profile.proofs.criteria.criteria.Statement.{statement}
 use Rattle.profile.proofs.criteria.criteria.Tie as tie
 
 abbrev Inv-loop : tie.InvT-loop
-Inv-loop s table strs rows n start at j repeated₀ p i₀ repeated i = (i ≤ j) × (earlier s start i p ≡ false) × (repeated ≡ false)
+Inv-loop s table uses strs rows n start at j repeated₀ p i₀ repeated i = (i ≤ j) × (earlier s start i p ≡ false) × (repeated ≡ false)
 
 abbrev μ-loop : tie.MeasureT-loop
-μ-loop s table strs rows n start at j repeated₀ p i₀ repeated i = j - i
+μ-loop s table uses strs rows n start at j repeated₀ p i₀ repeated i = j - i
 
 abbrev Inv-scan : tie.InvT-scan
-Inv-scan s table strs rows n start at₀ j₀ repeated₀ at j repeated = CritHead s (texts s strs table) rows n start at j × (repeated ≡ false)
+Inv-scan s table uses strs rows n start at₀ j₀ repeated₀ at j repeated = CritHead s (texts s strs table) rows n start at j × (repeated ≡ false)
 
 abbrev μ-scan : tie.MeasureT-scan
-μ-scan s table strs rows n start at₀ j₀ repeated₀ at j repeated = n - j
+μ-scan s table uses strs rows n start at₀ j₀ repeated₀ at j repeated = n - j
 
 scan-holds : tie.Need-scan-holds Inv-loop μ-loop Inv-scan μ-scan
 scan-holds c = (crit-first _ _ _ _ _, refl)

@@ -78,8 +78,8 @@ enum-told-10 c = search needs
 returns-5 : tie.Need-returns-5
 returns-5 c = search rest-5
 
-add-t11 : tie.Need-add-t11
-add-t11 c = search needs
+add-t12 : tie.Need-add-t12
+add-t12 c = search needs
 
 returns-6 : tie.Need-returns-6
 returns-6 c =
@@ -120,5 +120,5 @@ rest-at-spec =
     enum-told-9
     enum-told-10
     returns-5
-    add-t11
+    add-t12
     returns-6)

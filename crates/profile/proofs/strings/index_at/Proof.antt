@@ -1,4 +1,6 @@
-use Rattle.profile.proofs.Uses.{uses}
+use mathlib.Core.Path.{refl}
+use Rattle.profile.proofs.Laws.{is}
+use Rattle.profile.proofs.Uses.{uses, named-yes, named-wrong}
 use borrow.Author.Needs.{needs}
 use Rattle.profile.proofs.strings.index_at.Statement.{statement}
 use Rattle.profile.proofs.strings.index_at.Tie as tie
@@ -12,17 +14,8 @@ enum-known-i c = search needs
 returns : tie.Need-returns
 returns c = search uses
 
-mul-as-index : tie.Need-mul-as-index
-mul-as-index c = search needs
-
-element-copy-out-as-index : tie.Need-element-copy-out-as-index
-element-copy-out-as-index c = search needs
-
-as-index-requires : tie.Need-as-index-requires
-as-index-requires c κs = search needs
-
-text-requires : tie.Need-text-requires
-text-requires c κs = search uses
+element-copy-out-fits-use : tie.Need-element-copy-out-fits-use
+element-copy-out-fits-use c = search needs
 
 fits-use-requires : tie.Need-fits-use-requires
 fits-use-requires c κs = search needs
@@ -31,10 +24,14 @@ enum-known-number : tie.Need-enum-known-number
 enum-known-number c = search needs
 
 returns-2 : tie.Need-returns-2
-returns-2 c = search uses
+returns-2 c =
+    let kn = c .before .before .before .before .before .before .before .before .before .pre .1 in
+    named-yes _ _ _ (kn .tabled) _ _ _ kn _ _ _ (search is) (search needs) refl (c .before .fits-use .ensures) (search needs)
 
 returns-3 : tie.Need-returns-3
-returns-3 c = search uses
+returns-3 c =
+    let kn = c .before .before .before .before .before .before .before .before .before .pre .1 in
+    named-wrong _ _ _ (kn .tabled) _ _ _ kn _ _ _ (search is) (search needs) refl (c .before .fits-use .ensures) (search needs)
 
 returns-4 : tie.Need-returns-4
 returns-4 c = search uses
@@ -46,10 +43,7 @@ index-at-spec =
     word-at-requires
     enum-known-i
     returns
-    mul-as-index
-    element-copy-out-as-index
-    as-index-requires
-    text-requires
+    element-copy-out-fits-use
     fits-use-requires
     enum-known-number
     returns-2

@@ -80,8 +80,8 @@ enum-told-9 c = search needs
 returns-5 : tie.Need-returns-5
 returns-5 c = search row-5
 
-add-t11 : tie.Need-add-t11
-add-t11 c = search needs
+add-t12 : tie.Need-add-t12
+add-t12 c = search needs
 
 returns-6 : tie.Need-returns-6
 returns-6 c =
@@ -121,5 +121,5 @@ row-at-spec =
     enum-told-8
     enum-told-9
     returns-5
-    add-t11
+    add-t12
     returns-6)

@@ -6,10 +6,10 @@ use Rattle.profile.proofs.trigger_rows.rows.Statement.{statement}
 use Rattle.profile.proofs.trigger_rows.rows.Tie as tie
 
 abbrev Inv-loop : tie.InvT-loop
-Inv-loop s table n count start at₀ k₀ at k = RowHead s (texts s n table) count start at k
+Inv-loop s table uses n count start at₀ k₀ at k = RowHead s (texts s n table) count start at k
 
 abbrev μ-loop : tie.MeasureT-loop
-μ-loop s table n count start at₀ k₀ at k = count - k
+μ-loop s table uses n count start at₀ k₀ at k = count - k
 
 loop-holds : tie.Need-loop-holds Inv-loop μ-loop
 loop-holds c = rows-first _ _ _ _
