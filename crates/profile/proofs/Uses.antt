@@ -3,7 +3,7 @@ use Prim.Native.Nat.{ℕ, zero, suc, _+_, _-_, _≤_, _<_}
 use native.Mathlib.Omega.{arith}
 use native.Mathlib.Nat.{add-sub-cancel-left, le-of-suc-le-suc, not-suc-le-zero}
 use mathlib.Core.Path.{_≡_, refl, sym, ap, ap₂, _∙_}
-use mathlib.Core.Bool.{Bool, true, false, not}
+use mathlib.Core.Bool.{Bool, true, false, not, _||_}
 use mathlib.Core.List.{List, [], _∷_, map}
 use lib.Bits.{bitAnd, bitOr}
 use lib.ListN.{length, getD, take, drop, set, length-map, length-set}
@@ -43,58 +43,34 @@ uses-made t x y z b c ex eb ey ec ez =
 abbrev bits : Bool → Bool → Bool → ℕ
 bits a b c = bitOr (bitOr (pick a 0 1) (pick b 2 0)) (pick c 4 0)
 
-bit-1 : (a b c : Bool) → not (eqb (bitAnd (bits a b c) 1) 0) ≡ not a
-bit-1 true true true = refl
-bit-1 true true false = refl
-bit-1 true false true = refl
-bit-1 true false false = refl
-bit-1 false true true = refl
-bit-1 false true false = refl
-bit-1 false false true = refl
-bit-1 false false false = refl
-
-bit-2 : (a b c : Bool) → not (eqb (bitAnd (bits a b c) 2) 0) ≡ b
-bit-2 true true true = refl
-bit-2 true true false = refl
-bit-2 true false true = refl
-bit-2 true false false = refl
-bit-2 false true true = refl
-bit-2 false true false = refl
-bit-2 false false true = refl
-bit-2 false false false = refl
-
-bit-4 : (a b c : Bool) → not (eqb (bitAnd (bits a b c) 4) 0) ≡ c
-bit-4 true true true = refl
-bit-4 true true false = refl
-bit-4 true false true = refl
-bit-4 true false false = refl
-bit-4 false true true = refl
-bit-4 false true false = refl
-bit-4 false false true = refl
-bit-4 false false false = refl
+each-bit : (a b c : Bool)
+    → (not (eqb (bitAnd (bits a b c) 1) 0) ≡ not a) × (not (eqb (bitAnd (bits a b c) 2) 0) ≡ b) × (not (eqb (bitAnd (bits a b c) 4) 0) ≡ c)
+each-bit true true true = (refl, refl, refl)
+each-bit true true false = (refl, refl, refl)
+each-bit true false true = (refl, refl, refl)
+each-bit true false false = (refl, refl, refl)
+each-bit false true true = (refl, refl, refl)
+each-bit false true false = (refl, refl, refl)
+each-bit false false true = (refl, refl, refl)
+each-bit false false false = (refl, refl, refl)
 
 module _ (p u : ℕ) (t : List ℕ) (e : u ≡ uses-of t) where
   pub use-token : p ≡ 1 → not (eqb (bitAnd u 2) 0) ≡ usable p t
   unfolding usable uses-of
-  use-token q = ap (λ (n : ℕ). not (eqb (bitAnd n 2) 0)) e ∙ bit-2 (empty t) (token t) (is-pattern t) ∙ sym (ap (λ (k : ℕ). usable k t) q)
+  use-token q = ap (λ (n : ℕ). not (eqb (bitAnd n 2) 0)) e ∙ each-bit (empty t) (token t) (is-pattern t) .1 ∙ sym (ap (λ (k : ℕ). usable k t) q)
 
-  pub use-header : p ≡ 2 → not (eqb (bitAnd u 4) 0) ≡ usable p t
+  pub use-pattern : (p ≡ 1 → ⊥) → (eqb p 2 || eqb p 4) ≡ true → not (eqb (bitAnd u 4) 0) ≡ usable p t
   unfolding usable uses-of
-  use-header q = ap (λ (n : ℕ). not (eqb (bitAnd n 4) 0)) e ∙ bit-4 (empty t) (token t) (is-pattern t) ∙ sym (ap (λ (k : ℕ). usable k t) q)
-
-  pub use-line : p ≡ 4 → not (eqb (bitAnd u 4) 0) ≡ usable p t
-  unfolding usable uses-of
-  use-line q = ap (λ (n : ℕ). not (eqb (bitAnd n 4) 0)) e ∙ bit-4 (empty t) (token t) (is-pattern t) ∙ sym (ap (λ (k : ℕ). usable k t) q)
+  use-pattern e1 q = ap (λ (n : ℕ). not (eqb (bitAnd n 4) 0)) e ∙ each-bit (empty t) (token t) (is-pattern t) .2 ∙ rw (ne-eqb p 1 e1, q) refl
 
   pub use-any : p ≡ 5 → true ≡ usable p t
   unfolding usable
   use-any q = sym (ap (λ (k : ℕ). usable k t) q)
 
-  pub use-other : (p ≡ 1 → ⊥) → (p ≡ 2 → ⊥) → (p ≡ 4 → ⊥) → (p ≡ 5 → ⊥) → not (eqb (bitAnd u 1) 0) ≡ usable p t
+  pub use-other : (p ≡ 1 → ⊥) → (eqb p 2 || eqb p 4) ≡ false → (p ≡ 5 → ⊥) → not (eqb (bitAnd u 1) 0) ≡ usable p t
   unfolding usable uses-of
-  use-other e1 e2 e4 e5 =
-      ap (λ (n : ℕ). not (eqb (bitAnd n 1) 0)) e ∙ bit-1 (empty t) (token t) (is-pattern t)
-      ∙ rw (ne-eqb p 1 e1, ne-eqb p 2 e2, ne-eqb p 4 e4, ne-eqb p 5 e5) refl
+  use-other e1 q e5 =
+      ap (λ (n : ℕ). not (eqb (bitAnd n 1) 0)) e ∙ each-bit (empty t) (token t) (is-pattern t) .0 ∙ rw (ne-eqb p 1 e1, q, ne-eqb p 5 e5) refl
 
 -- the strings below k are judged
 pub record Told (s : List ℕ) (n : ℕ) (table uses : List ℕ) (k : ℕ) : Type 0 where
@@ -176,4 +152,4 @@ module _ (s : List ℕ) (v at : ℕ) where
 pub inside-at : (s : List ℕ) (n : ℕ) (table : List ℕ) (i o : ℕ) → Table s n table → i < n → o ≡ getD table i 0 → o + 2 + word s o ≤ length s
 inside-at s n table i o tb h e = rw e (tb .inside i h)
 
-pub ruleset uses = (is, refused, text-is, use-token, use-header, use-line, use-any, use-other, named-bad, named-out, named-wrong, named-yes, exactly-yes, exactly-no, exactly-bad, inside-at)
+pub ruleset uses = (is, refused, text-is, use-token, use-pattern, use-any, use-other, named-bad, named-out, named-wrong, named-yes, exactly-yes, exactly-no, exactly-bad, inside-at)

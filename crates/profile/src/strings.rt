@@ -104,10 +104,7 @@ fn fits_use(uses: u8, purpose: usize) -> bool
     if purpose == 1 {
         return uses & 2 != 0;
     }
-    if purpose == 2 {
-        return uses & 4 != 0;
-    }
-    if purpose == 4 {
+    if (purpose == 2) | (purpose == 4) {
         return uses & 4 != 0;
     }
     if purpose == 5 {

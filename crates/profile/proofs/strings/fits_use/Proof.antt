@@ -1,4 +1,4 @@
-use Rattle.profile.proofs.Uses.{use-token, use-header, use-line, use-any, use-other}
+use Rattle.profile.proofs.Uses.{use-token, use-pattern, use-any, use-other}
 use Rattle.profile.proofs.strings.fits_use.Statement.{statement}
 use Rattle.profile.proofs.strings.fits_use.Tie as tie
 
@@ -6,16 +6,13 @@ returns : tie.Need-returns
 returns c = search use-token
 
 returns-2 : tie.Need-returns-2
-returns-2 c = search use-header
+returns-2 c = search use-pattern
 
 returns-3 : tie.Need-returns-3
-returns-3 c = search use-line
+returns-3 c = search use-any
 
 returns-4 : tie.Need-returns-4
-returns-4 c = search use-any
-
-returns-5 : tie.Need-returns-5
-returns-5 c = search use-other
+returns-4 c = search use-other
 
 pub fits-use-spec : {M : Type 1} → statement M
-fits-use-spec = tie.close (tie.spec returns returns-2 returns-3 returns-4 returns-5)
+fits-use-spec = tie.close (tie.spec returns returns-2 returns-3 returns-4)
