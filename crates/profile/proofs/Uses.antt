@@ -54,6 +54,11 @@ each-bit false true false = (refl, refl, refl)
 each-bit false false true = (refl, refl, refl)
 each-bit false false false = (refl, refl, refl)
 
+-- kinds 2 and 4 name patterns
+pub usable-pattern : (p : ℕ) (t : List ℕ) → (p ≡ 1 → ⊥) → (eqb p 2 || eqb p 4) ≡ true → is-pattern t ≡ usable p t
+unfolding usable
+usable-pattern p t e1 q = rw (ne-eqb p 1 e1, q) refl
+
 module _ (p u : ℕ) (t : List ℕ) (e : u ≡ uses-of t) where
   pub use-token : p ≡ 1 → not (eqb (bitAnd u 2) 0) ≡ usable p t
   unfolding usable uses-of
@@ -61,7 +66,7 @@ module _ (p u : ℕ) (t : List ℕ) (e : u ≡ uses-of t) where
 
   pub use-pattern : (p ≡ 1 → ⊥) → (eqb p 2 || eqb p 4) ≡ true → not (eqb (bitAnd u 4) 0) ≡ usable p t
   unfolding usable uses-of
-  use-pattern e1 q = ap (λ (n : ℕ). not (eqb (bitAnd n 4) 0)) e ∙ each-bit (empty t) (token t) (is-pattern t) .2 ∙ rw (ne-eqb p 1 e1, q) refl
+  use-pattern e1 q = ap (λ (n : ℕ). not (eqb (bitAnd n 4) 0)) e ∙ each-bit (empty t) (token t) (is-pattern t) .2 ∙ usable-pattern p t e1 q
 
   pub use-any : p ≡ 5 → true ≡ usable p t
   unfolding usable
