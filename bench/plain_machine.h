@@ -87,7 +87,7 @@ static size_t element_at(const uint8_t *s, size_t n, size_t i, int first, uint64
     return i + 1;
 }
 
-/* Where the elements of a string that is not empty stop: at a last `$`, or at the end. */
+/* Where no element of a string that is not empty begins any more: at a last `$`, or at the end. */
 static inline size_t stop_at(const uint8_t *s, size_t n) { return s[n - 1] == '$' ? n - 1 : n; }
 
 static inline int is_pattern(const uint8_t *s, size_t n) {

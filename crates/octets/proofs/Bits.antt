@@ -342,13 +342,13 @@ ones (suc w) = ap (λ (x : ℕ). 2 ^ w + x) (ones w) ∙ omega (arith, pow-suc 2
 pub bit-ones : (w k : ℕ) → bit (2 ^ w - 1) k ≡ ltb k w
 bit-ones w k = ap (λ (n : ℕ). bit n k) (sym (ones w)) ∙ bit-mask w (λ k. true) k ∙ and-true (ltb k w)
 
+pub mask-bit : (w : ℕ) (f : ℕ → Bool) (k : ℕ) → k < w → bit (mask w f) k ≡ f k
+mask-bit w f k h = bit-mask w f k ∙ ap (λ (x : Bool). x && f k) (lt-ltb k w h)
+
 -- a number below 2 ^ w is the mask of its bits
 pub mask-of : (w n : ℕ) (f : ℕ → Bool) → n < 2 ^ w → ((k : ℕ) → k < w → bit n k ≡ f k) → n ≡ mask w f
 mask-of w n f h e =
-    bit-ext w n (mask w f) h (mask-lt w f) (λ k l. e k l ∙ sym (bit-mask w f k ∙ ap (λ (x : Bool). x && f k) (lt-ltb k w l)))
-
-pub mask-bit : (w : ℕ) (f : ℕ → Bool) (k : ℕ) → k < w → bit (mask w f) k ≡ f k
-mask-bit w f k h = bit-mask w f k ∙ ap (λ (x : Bool). x && f k) (lt-ltb k w h)
+    bit-ext w n (mask w f) h (mask-lt w f) (λ k l. e k l ∙ sym (mask-bit w f k l))
 
 pub mask-and : (w : ℕ) (f g : ℕ → Bool) → bitAnd (mask w f) (mask w g) ≡ mask w (λ k. f k && g k)
 mask-and w f g =

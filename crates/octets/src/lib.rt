@@ -345,17 +345,17 @@ pub fn same_letters(a: &[u8], b: &[u8]) -> bool
     true
 }
 
-// One or more token bytes: a method, a field's name.
-pub fn is_token(s: &[u8]) -> bool
+// One or more token bytes: a method.
+pub fn is_token(table: &[u8; 256], s: &[u8]) -> bool
+    requires { ⌜ Classes (now table) ⌝ }
     ensures { λ r. ⌜ r ≡ token (now (s .entry)) ⌝ }
 {
     if s.len() == 0 {
         return false;
     }
-    let table = class_table();
     let mut i: usize = 0;
     while i < s.len() {
-        let k = class_in(&table, s[i]);
+        let k = class_in(table, s[i]);
         i += 1;
         if k != 1 {
             return false;

@@ -9,7 +9,7 @@ use native.Mathlib.Omega.{arith}
 use lib.Dec.{T, eqb, leb, ltb}
 use lib.ListN.{length, getD, drop, drop-of-length-le}
 use lib.Seq.{drop-drop}
-use borrow.Author.Tests.{eqb-true, eq-eqb, ne-eqb, lt-leb, ltb-true, ltb-false}
+use borrow.Author.Tests.{eqb-true, eq-eqb, ne-eqb, le-leb, lt-leb, ltb-true, ltb-false}
 use Rattle.octets.specs.Lists.{pick, peek}
 use Rattle.octets.specs.Option.{_>>=_, holds}
 use Rattle.octets.proofs.Tests.{T-of, is-true, left, either}
@@ -27,14 +27,14 @@ use Rattle.pattern.proofs.Places.{peek-in, peek-inside}
 
 -- ---- behind an atom and its `*`
 
-star-inside : (s : List ℕ) (e next : ℕ) → next ≡ peek (drop e s) → next ≡ 42 → e < length s
-star-inside s e next n q = peek-inside s e (λ z. let y : _≡_ {A = ℕ} 42 256 = sym q ∙ n ∙ z in absurd (omega arith))
+star-inside : (s : List ℕ) (e : ℕ) → peek (drop e s) ≡ 42 → e < length s
+star-inside s e q = peek-inside s e (λ z. let y : _≡_ {A = ℕ} 42 256 = sym q ∙ z in absurd (omega arith))
 
-pub behind-le : (s : List ℕ) (e : ℕ) → e ≤ length s → pick (eqb (peek (drop e s)) 42) (e + 1) e ≤ length s
+behind-le : (s : List ℕ) (e : ℕ) → e ≤ length s → pick (eqb (peek (drop e s)) 42) (e + 1) e ≤ length s
 behind-le s e h = go (eqb (peek (drop e s)) 42) refl
   where
     go : (t : Bool) → eqb (peek (drop e s)) 42 ≡ t → pick t (e + 1) e ≤ length s
-    go true q = let l : e < length s = star-inside s e (peek (drop e s)) refl (eqb-true (peek (drop e s)) 42 q) in omega arith
+    go true q = let l : e < length s = star-inside s e (eqb-true (peek (drop e s)) 42 q) in omega arith
     go false q = h
 
 behind-ge : (t : Bool) (e : ℕ) → e ≤ pick t (e + 1) e
@@ -79,7 +79,7 @@ module _ (s : List ℕ) (i stop : ℕ) (q : stop ≡ stop-of s) where
           let w : i ≡ length s - 1 = omega arith in
           ap (λ (n : ℕ). eqb (getD s n 0) 36 && true) w ∙ ap (λ (x : Bool). x && true) e
 
-  pub stop-here : stop ≤ i → i < length s → anchor-at s i ≡ true
+  stop-here : stop ≤ i → i < length s → anchor-at s i ≡ true
   stop-here h l = go ends refl
     where
       go : (t : Bool) → ends ≡ t → anchor-at s i ≡ true
@@ -88,16 +88,16 @@ module _ (s : List ℕ) (i stop : ℕ) (q : stop ≡ stop-of s) where
           ap₂ (λ (x y : Bool). x && y) (ap (λ (n : ℕ). eqb (getD s n 0) 36) w ∙ e) (eq-eqb (i + 1) (length s) (omega arith))
       go false e = absurd (omega (arith, stop-by false e))
 
--- there is no `*` from there on
 pub star-before : (s : List ℕ) (i stop : ℕ) → stop ≡ stop-of s → i < stop → eqb (getD s i 0) 42 ≡ eqb (peek (drop i s)) 42
 star-before s i stop q h = ap (λ (n : ℕ). eqb n 42) (peek-in s i (stop-inside s i stop q h))
 
+-- there is no `*` from there on
 pub star-past : (s : List ℕ) (i stop : ℕ) → stop ≡ stop-of s → stop ≤ i → false ≡ eqb (peek (drop i s)) 42
 star-past s i stop q h = sym (ne-eqb (peek (drop i s)) 42 at)
   where
     at : peek (drop i s) ≡ 42 → ⊥
     at z =
-        let l : i < length s = star-inside s i (peek (drop i s)) refl z in
+        let l : i < length s = star-inside s i z in
         let t : T (anchor-at s i) = T-of (stop-here s i stop q h l) in
         let d : getD s i 0 ≡ 36 = eqb-true (getD s i 0) 36 (is-true (eqb (getD s i 0) 36) (left (eqb (getD s i 0) 36) (eqb (i + 1) (length s)) t)) in
         let y : _≡_ {A = ℕ} 36 42 = sym d ∙ peek-in s i l ∙ z in
@@ -149,7 +149,7 @@ module _ (s : List ℕ) (i : ℕ) (first : Bool) (h : i < length s) where
   body-last e = here-is true e
 
   module _ (build : Bool) (r : Piece) (a : PieceAt (map-got (drawn build) (atom first b rest)) s i r) (e : anchor-at s i ≡ false) where
-    pub body-lost : r .end ≡ 0 → body-of first (drop i s) ≡ none
+    body-lost : r .end ≡ 0 → body-of first (drop i s) ≡ none
     body-lost z = here-is false e ∙ ap going (map-none (drawn build) (atom first b rest) (piece-lost a z))
 
     pub body-more : (r .end ≡ 0 → ⊥) → Step build s i first (r .end) (r .set)
@@ -220,7 +220,7 @@ count-all start (some b) = go (leb (length (b .parts)) 60) ∙ ap (λ (n : ℕ).
     go true = refl
     go false = refl
 
-pub start-le : (s : List ℕ) → (length s ≡ 0 → ⊥) → start-of s ≤ length s
+start-le : (s : List ℕ) → (length s ≡ 0 → ⊥) → start-of s ≤ length s
 start-le s n = either (λ (k : ℕ). k ≤ length s) (eqb (peek s) 94) 1 0 (omega arith) (omega arith)
 
 pub count-start : (s : List ℕ) (i : ℕ) → (length s ≡ 0 → ⊥) → i ≡ start-of s → Counted s i true 0
@@ -237,9 +237,18 @@ counted-more : (x : Elem) (n : ℕ) (o : Option Body) → counted n (with-elem x
 counted-more x n none = refl
 counted-more x n (some b) = let z : n + suc (length (b .parts)) ≡ n + 1 + length (b .parts) = omega arith in ap (λ (k : ℕ). leb k 60) z
 
+-- more than 60 before i
+count-many : (s : List ℕ) (i : ℕ) (first : Bool) (n : ℕ) → Counted s i first n → 60 < n → false ≡ is-pattern s
+count-many s i first n c h = sym (go (body-of first (drop i s))) ∙ c .left
+  where
+    go : (o : Option Body) → counted n o ≡ false
+    go none = refl
+    go (some b) = lt-leb (n + length (b .parts)) 60 (omega arith)
+
 module _ (s : List ℕ) (i : ℕ) (first : Bool) (n : ℕ) (c : Counted s i first n) (stop : ℕ) (q : stop ≡ stop-of s) where
-  pub count-done : stop ≤ i → leb n 60 ≡ is-pattern s
-  count-done h = ap (λ (k : ℕ). leb k 60) (sym (add-zero n)) ∙ sym (ap (counted n) (body-stop s i first stop q h)) ∙ c .left
+  pub count-done : stop ≤ i → n ≤ 60 → true ≡ is-pattern s
+  count-done h few =
+      sym (le-leb n 60 few) ∙ ap (λ (k : ℕ). leb k 60) (sym (add-zero n)) ∙ sym (ap (counted n) (body-stop s i first stop q h)) ∙ c .left
 
   module _ (h : i < stop) (build : Bool) (r : Piece) (a : PieceAt (map-got (drawn build) (atom first (getD s i 0) (drop (i + 1) s))) s i r) where
     pub count-lost : r .end ≡ 0 → false ≡ is-pattern s
@@ -260,10 +269,8 @@ module _ (s : List ℕ) (i : ℕ) (first : Bool) (n : ℕ) (c : Counted s i firs
           inside = behind-le s (r .end) (a .inside);
         })
 
--- more than 60 before i
-pub count-many : (s : List ℕ) (i : ℕ) (first : Bool) (n : ℕ) → Counted s i first n → 60 < n → false ≡ is-pattern s
-count-many s i first n c h = sym (go (body-of first (drop i s))) ∙ c .left
-  where
-    go : (o : Option Body) → counted n o ≡ false
-    go none = refl
-    go (some b) = lt-leb (n + length (b .parts)) 60 (omega arith)
+    -- one more than 60
+    pub count-full : (r .end ≡ 0 → ⊥) → n ≡ 60 → false ≡ is-pattern s
+    count-full m full =
+        count-many s (pick (eqb (peek (drop (r .end) s)) 42) (r .end + 1) (r .end)) false (n + 1)
+        (count-more (pick (eqb (peek (drop (r .end) s)) 42) (r .end + 1) (r .end)) m refl) (omega arith)

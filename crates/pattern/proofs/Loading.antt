@@ -7,7 +7,7 @@ use Prim.Native.Nat.{ℕ, _+_, _<_, _≤_}
 use native.Mathlib.Omega.{arith}
 use lib.Dec.{eqb, ltb}
 use lib.ListN.{length, getD, drop, set, length-set}
-use borrow.Author.Tests.{le-leb, ne-eqb}
+use borrow.Author.Tests.{ne-eqb}
 use Rattle.octets.specs.Lists.{pick, peek}
 use Rattle.machine.specs.declared.Shape.{Shape}
 use Rattle.pattern.specs.Answers.{was-read, is-pattern}
@@ -18,7 +18,7 @@ use Rattle.pattern.specs.Reading.{atom, read-pattern}
 use Rattle.pattern.specs.Drawn.{drawn}
 use Rattle.pattern.specs.declared.edition1.Marks.{Marks}
 use Rattle.pattern.specs.declared.reader.Piece.{Piece}
-use Rattle.pattern.proofs.Elements.{anchor-at, stop-inside, stop-before, Counted, count-empty, count-start, count-lost, count-more, count-many, count-done}
+use Rattle.pattern.proofs.Elements.{anchor-at, stop-inside, stop-before, Counted, count-empty, count-start, count-lost, count-more, count-full, count-done}
 use Rattle.pattern.proofs.Positions.{at-bit}
 use Rattle.pattern.proofs.Front.{Stands, Storing, stands-empty, stands-stop, stands-lost, stands-many, store-start, store-more}
 use Rattle.pattern.proofs.Filling.{Fills, fill-start, fill-stop, fill-more, prepare-refused, prepare-on, prepared-ready}
@@ -70,7 +70,7 @@ module _ (fold : Bool) (s : List ℕ) (old-sets : List (List ℕ)) (old-before :
       module _ (stop : ℕ) (w : stop ≡ stop-of s) where
         pub load-end : stop ≤ i → (h : Shape) (next : ℕ) → next ≡ peek s → h ≡ shape-by m (eqb next 94) (ltb i (length s)) → Loaded fold s h old-sets ss old-before bs
         load-end k h next q z =
-            let y : is-pattern s ≡ true = sym (count-done s i first (m .at) (l .counts) stop w k) ∙ le-leb (m .at) 60 (l .low) in
+            let y : is-pattern s ≡ true = sym (count-done s i first (m .at) (l .counts) stop w k (l .low)) in
             let f = l .fills y in
             let st = stands-stop fold s old-sets old-before i first m ss bs (l .stores) stop w k in
             load-filled h next m (ltb i (length s)) ss bs y q (fill-stop s (f .0) i first m (f .1) fold old-sets ss old-before bs st (l .room-sets) (l .room-before) stop w k) z st
@@ -97,7 +97,7 @@ module _ (fold : Bool) (s : List ℕ) (old-sets : List (List ℕ)) (old-before :
             counts-on i′ q = count-more s i first (m .at) (l .counts) stop w k true r a i′ n q
 
             pub load-many : m .at ≡ 60 → (h : Shape) → h ≡ no-shape → Loaded fold s h old-sets ss old-before bs
-            load-many full h q = load-refused h ss bs (count-many s j false (m .at + 1) (counts-on j refl) (omega arith)) q (l .room-sets) (l .room-before)
+            load-many full h q = load-refused h ss bs (count-full s i first (m .at) (l .counts) stop w k true r a n full) q (l .room-sets) (l .room-before)
                 (stands-many fold s old-sets old-before i first m ss bs (l .stores) full (l .room-sets) (l .room-before))
 
             pub load-room : (m .at ≡ 60 → ⊥) → m .at < 60

@@ -8,29 +8,25 @@ use native.Mathlib.Nat.{mod-lt, lt-of-le-of-lt}
 use native.Mathlib.Omega.{arith}
 use lib.Bits.{bitAnd, bitOr, bitXor, and-le-r, or-lt, xor-lt, xor-self, xor-zero-l}
 use lib.Dec.{eqb, ltb, leb}
-use lib.ListN.{length, getD, replicate}
+use lib.ListN.{getD, replicate}
 use lib.Pow.{pow-lt, pow-pos, shl-exact}
-use lib.Seq.{ext-getD}
 use borrow.Author.Tests.{eqb-true, eqb-false, eq-eqb, ne-eqb, ltb-true, ltb-false, lt-ltb, le-ltb, le-leb, lt-leb, leb-true, leb-false}
 use Rattle.octets.specs.Bits.{bit, mask}
 use Rattle.octets.specs.Bytes.{within, lower, upper}
 use Rattle.octets.specs.Lists.{pick}
-use Rattle.octets.proofs.Bits.{bit-and, bit-or, bit-shr, bit-shl, bit-shl-low, bit-add, bit-pow, bit-xor, bit-zero, bit-mask, mask-bit, mask-lt, mask-of, mask-or, ones-up, ones-down, shl-one}
+use Rattle.octets.proofs.Bits.{bit-and, bit-or, bit-shr, bit-shl, bit-shl-low, bit-add, bit-pow, bit-xor, bit-zero, bit-ones, mask-bit, mask-lt, mask-of, mask-or, ones-up, ones-down, shl-one}
 use Rattle.machine.specs.Machine.{in-set}
 use Rattle.pattern.specs.Sets.{word, words}
 
 -- ---- masks of 64 bits
 
-bit-of : (f : ℕ → Bool) (k : ℕ) → k < 64 → bit (mask 64 f) k ≡ f k
-bit-of = mask-bit 64
-
 mask-ext : (f g : ℕ → Bool) → ((k : ℕ) → k < 64 → f k ≡ g k) → mask 64 f ≡ mask 64 g
-mask-ext f g e = mask-of 64 (mask 64 f) g (mask-lt 64 f) (λ k h. bit-of f k h ∙ e k h)
+mask-ext f g e = mask-of 64 (mask 64 f) g (mask-lt 64 f) (λ k h. mask-bit 64 f k h ∙ e k h)
 
 mask-with : (f : ℕ → Bool) (j : ℕ) → j < 64 → bitOr (mask 64 f) (2 ^ j) ≡ mask 64 (λ k. f k || eqb k j)
 mask-with f j h =
     mask-of 64 (bitOr (mask 64 f) (2 ^ j)) (λ k. f k || eqb k j) (or-lt 64 (mask 64 f) (2 ^ j) (mask-lt 64 f) (pow-lt h))
-    (λ k l. bit-add (mask 64 f) j k ∙ ap (λ (x : Bool). x || eqb k j) (bit-of f k l))
+    (λ k l. bit-add (mask 64 f) j k ∙ ap (λ (x : Bool). x || eqb k j) (mask-bit 64 f k l))
 
 -- all 64 bits, as code writes the number
 abbrev pub all-bits : ℕ
@@ -45,7 +41,7 @@ mask-not f =
     mask-of 64 (bitXor (mask 64 f) all-bits) (λ k. not (f k)) (xor-lt 64 (mask 64 f) all-bits (mask-lt 64 f) (omega arith))
     (λ k h.
     bit-xor (mask 64 f) all-bits k
-    ∙ ap₂ (λ (x y : Bool). pick x (not y) y) (ap (λ (n : ℕ). bit n k) (sym all-mask) ∙ bit-of (λ j. true) k h) (bit-of f k h))
+    ∙ ap₂ (λ (x y : Bool). pick x (not y) y) (ap (λ (n : ℕ). bit n k) (sym all-mask) ∙ mask-bit 64 (λ j. true) k h) (mask-bit 64 f k h))
 
 -- ---- words
 
@@ -57,32 +53,27 @@ word-at f (suc (suc zero)) h = refl
 word-at f (suc (suc (suc zero))) h = refl
 word-at f (suc (suc (suc (suc i)))) h = absurd (omega arith)
 
-four : (f : ℕ → Bool) → length (words f) ≡ 4
-unfolding words
-four f = refl
-
 pub in-words : (f : ℕ → Bool) (b : ℕ) → b < 256 → in-set (words f) b ≡ f b
 unfolding in-set
 in-words f b h =
     let e : 64 * (b / 64) + b % 64 ≡ b = omega arith in
-    ap (λ (n : ℕ). bit n (b % 64)) (word-at f (b / 64) (omega arith)) ∙ bit-of (λ k. f (64 * (b / 64) + k)) (b % 64) (omega arith) ∙ ap f e
+    ap (λ (n : ℕ). bit n (b % 64)) (word-at f (b / 64) (omega arith)) ∙ mask-bit 64 (λ k. f (64 * (b / 64) + k)) (b % 64) (omega arith) ∙ ap f e
 
--- a set is what its words are at each place
-by-words : (ws : List ℕ) (f : ℕ → Bool) → length ws ≡ 4 → ((i : ℕ) → i < 4 → getD ws i 0 ≡ word f i) → ws ≡ words f
-by-words ws f l e = ext-getD 0 ws (words f) (l ∙ sym (four f)) (λ i h. let q : i < 4 = omega (arith, l) in e i q ∙ sym (word-at f i q))
+-- a set is what its words are
+four-words : {a b c d : ℕ} (f : ℕ → Bool) → a ≡ word f 0 → b ≡ word f 1 → c ≡ word f 2 → d ≡ word f 3 → a ∷ b ∷ c ∷ d ∷ [] ≡ words f
+unfolding words
+four-words f p q r s = ap₂ (λ (x : ℕ) (l : List ℕ). x ∷ l) p (ap₂ (λ (x : ℕ) (l : List ℕ). x ∷ l) q (ap₂ (λ (x y : ℕ). x ∷ y ∷ []) r s))
 
 pub words-ext : (f g : ℕ → Bool) → ((b : ℕ) → b < 256 → f b ≡ g b) → words f ≡ words g
-words-ext f g e =
-    by-words (words f) g (four f)
-    (λ i h. word-at f i h ∙ mask-ext (λ k. f (64 * i + k)) (λ k. g (64 * i + k)) (λ k l. e (64 * i + k) (omega arith)))
+unfolding words
+words-ext f g e = four-words g (same 0 (omega arith)) (same 1 (omega arith)) (same 2 (omega arith)) (same 3 (omega arith))
+  where
+    same : (i : ℕ) → i < 4 → word f i ≡ word g i
+    same i h = mask-ext (λ k. f (64 * i + k)) (λ k. g (64 * i + k)) (λ k l. e (64 * i + k) (omega arith))
 
 pub no-words : replicate 4 0 ≡ words (λ b. false)
 unfolding words mask
 no-words = refl
-
-four-words : {a b c d : ℕ} (f : ℕ → Bool) → a ≡ word f 0 → b ≡ word f 1 → c ≡ word f 2 → d ≡ word f 3 → a ∷ b ∷ c ∷ d ∷ [] ≡ words f
-unfolding words
-four-words f p q r s = ap₂ (λ (x : ℕ) (l : List ℕ). x ∷ l) p (ap₂ (λ (x : ℕ) (l : List ℕ). x ∷ l) q (ap₂ (λ (x y : ℕ). x ∷ y ∷ []) r s))
 
 none-set : (f : ℕ → Bool) → ((k : ℕ) → k < 64 → f k ≡ false) → 0 ≡ mask 64 f
 none-set f e = mask-of 64 0 f (omega arith) (λ k h. bit-zero k ∙ sym (e k h))
@@ -210,8 +201,7 @@ abbrev pub letters : ℕ
 letters = 67108863
 
 letters-bit : (j : ℕ) → bit letters j ≡ ltb j 26
-unfolding mask
-letters-bit j = bit-mask 26 (λ k. true) j ∙ and-true (ltb j 26)
+letters-bit j = bit-ones 26 j
 
 yes : (lo hi b : ℕ) → lo ≤ b → b ≤ hi → within lo hi b ≡ true
 yes lo hi b l h = ap₂ (λ (x y : Bool). x && y) (le-leb lo b l) (le-leb b hi h)
@@ -272,7 +262,7 @@ module _ (f : ℕ → Bool) where
       moved s h k ∙ ap (bit (found * 2 ^ s)) e ∙ bit-shl found s (k - s) ∙ found-bit (k - s)
       ∙ ap (λ (x : Bool). (bit w (1 + (k - s)) || bit w (33 + (k - s))) && x) (lt-ltb (k - s) 26 (omega arith)) ∙ and-true (bit w (1 + (k - s)) || bit w (33 + (k - s)))
       ∙ ap₂ (λ (x y : Bool). x || y)
-      (bit-of (λ i. f (64 * 1 + i)) (1 + (k - s)) (omega arith) ∙ ap f a) (bit-of (λ i. f (64 * 1 + i)) (33 + (k - s)) (omega arith) ∙ ap f b)
+      (mask-bit 64 (λ i. f (64 * 1 + i)) (1 + (k - s)) (omega arith) ∙ ap f a) (mask-bit 64 (λ i. f (64 * 1 + i)) (33 + (k - s)) (omega arith) ∙ ap f b)
 
   abbrev folded : ℕ
   folded = bitOr (bitOr w (found * 2 ^ 1 % 2 ^ 64)) (found * 2 ^ 33 % 2 ^ 64)
@@ -280,7 +270,7 @@ module _ (f : ℕ → Bool) where
   folded-bit : (k : ℕ) → k < 64 → bit folded k ≡ both-forms (64 * 1 + k)
   folded-bit k h =
       bit-or (bitOr w (found * 2 ^ 1 % 2 ^ 64)) (found * 2 ^ 33 % 2 ^ 64) k
-      ∙ ap (λ (x : Bool). x || bit (found * 2 ^ 33 % 2 ^ 64) k) (bit-or w (found * 2 ^ 1 % 2 ^ 64) k ∙ ap (λ (x : Bool). x || bit (found * 2 ^ 1 % 2 ^ 64) k) (bit-of (λ i. f (64 * 1 + i)) k h))
+      ∙ ap (λ (x : Bool). x || bit (found * 2 ^ 33 % 2 ^ 64) k) (bit-or w (found * 2 ^ 1 % 2 ^ 64) k ∙ ap (λ (x : Bool). x || bit (found * 2 ^ 1 % 2 ^ 64) k) (mask-bit 64 (λ i. f (64 * 1 + i)) k h))
       ∙ go (ltb k 1) refl (ltb k 27) refl (ltb k 33) refl (ltb k 59) refl
     where
       absorb : (x y : Bool) → ((x || (x || y)) || false) ≡ (y || x)

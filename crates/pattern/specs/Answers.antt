@@ -12,6 +12,7 @@ use Rattle.pattern.specs.declared.Outcome.{Outcome}
 use Rattle.pattern.specs.declared.Outcome.the-variants.{No, Yes, Refuse}
 use Rattle.pattern.specs.Matching.{front, written-matches, name-matches}
 
+-- whether a pattern was read
 abbrev pub was-read : Option Pattern → Bool
 was-read none = false
 was-read (some p) = true
@@ -25,6 +26,7 @@ is-pattern s = was-read (read-pattern s)
 abbrev pub matches-as : Bool → Pattern → List ℕ → Bool
 matches-as fold p t = pick fold (name-matches p t) (written-matches p t)
 
+-- no string that is no pattern matches
 abbrev pub read-matches : Bool → Option Pattern → List ℕ → Bool
 read-matches fold none t = false
 read-matches fold (some p) t = matches-as fold p t
@@ -58,6 +60,7 @@ abbrev pub smallest : (ℕ → Bool) → ℕ → ℕ → ℕ
 smallest f zero from = from
 smallest f (suc n) from = pick (f from) from (smallest f n (from + 1))
 
+-- by what was read
 abbrev pub first-of : Bool → Option Pattern → List ℕ → ℕ
 first-of fold none t = suc (length t)
 first-of fold (some p) t = smallest (fits-from fold p t) (suc (length t)) 0

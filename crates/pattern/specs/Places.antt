@@ -27,7 +27,7 @@ body-of first s = body (suc (length s)) first s
 abbrev pub front-of : Bool → List ℕ → List Elem
 front-of first s = front (suc (length s)) first s
 
--- the elements begin behind the anchor `^`, and stop at the anchor `$` where it stands last
+-- the first element begins behind the anchor `^`; none begins at a last `$`, or at the end
 abbrev pub start-of : List ℕ → ℕ
 start-of s = pick (eqb (peek s) 94) 1 0
 

@@ -17,10 +17,12 @@ use Rattle.pattern.specs.Places.{front-of, start-of}
 use Rattle.pattern.specs.Sets.{words}
 use Rattle.pattern.specs.declared.edition1.Marks.{Marks}
 
+-- whether an element repeats
 abbrev pub starred : Elem → Bool
 starred (once a) = false
 starred (star a) = true
 
+-- what one byte of it has to meet
 abbrev pub atom-of : Elem → Atom
 atom-of (once a) = a
 atom-of (star a) = a
@@ -45,6 +47,7 @@ mark m repeats = record {
 abbrev pub before-at : Marks → Bool → ℕ
 before-at m repeats = pick repeats (bitOr (m .run) (2 ^ m .at)) (m .run)
 
+-- all of them
 abbrev pub marks : Marks → List Elem → Marks
 marks m [] = m
 marks m (e ∷ es) = marks (mark m (starred e)) es
@@ -88,6 +91,7 @@ no-shape = record { size = 0; start = 0; inner = 0; ends = 0; stops = 0; whole =
 abbrev pub takes-part : Shape → Bool
 takes-part h = not (eqb (h .size) 0) || h .whole
 
+-- the machine of a pattern, where one was read
 abbrev pub shape-of : Option Pattern → Shape
 shape-of none = no-shape
 shape-of (some p) = shape-by (marks no-marks (p .elems)) (p .at-start) (p .at-end)
@@ -119,7 +123,7 @@ pub record FilledFor (fold : Bool) (o : Option Pattern) (m : Marks) (right : Boo
   pub room-sets : length sets ≡ 60
   pub room-before : length before ≡ 60
 
--- what `prepare` leaves, and what `test` needs
+-- what `prepare` leaves
 pub record Prepared (fold : Bool) (p : List ℕ) (h : Shape) (old-sets sets : List (List ℕ)) (old-before before : List ℕ) : Type 0 where
   pub shape : h ≡ shape-of (read-pattern p)
   pub lent-sets : sets ≡ sets-after fold (read-pattern p) old-sets
@@ -127,6 +131,7 @@ pub record Prepared (fold : Bool) (p : List ℕ) (h : Shape) (old-sets sets : Li
   pub room-sets : length sets ≡ 60
   pub room-before : length before ≡ 60
 
+-- what `test` needs: places that were prepared for this pattern, whatever they held before
 pub record Ready (fold : Bool) (p : List ℕ) (h : Shape) (sets : List (List ℕ)) (before : List ℕ) : Type 0 where
   pub old-sets : List (List ℕ)
   pub old-before : List ℕ

@@ -38,12 +38,15 @@ pub fn is_pattern(s: &[u8]) -> bool
         if end == 0 {
             return false;
         }
+        if n == 60 {
+            return false;
+        }
         let repeats = star_at(s, end, stop);
         i = behind(end, repeats);
         first = false;
         n += 1;
     }
-    n <= 60
+    true
 }
 
 // Reads a pattern into the lent places, once for many texts; fold: for names. A refused one gives a machine that takes no part, and leaves the

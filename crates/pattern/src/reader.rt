@@ -209,7 +209,7 @@ pub(crate) fn atom_at(s: &[u8], i: usize, first: bool, build: bool) -> Piece
     Piece { end: i + 1, set }
 }
 
-// Whether an atom that ends at i repeats. Where the elements stop there is no `*`.
+// Whether an atom that ends at i repeats. From where no element begins there is no `*`.
 pub(crate) fn star_at(s: &[u8], i: usize, stop: usize) -> bool
     requires { ⌜ stop ≡ stop-of (now s) ⌝ }
     ensures { λ r. ⌜ r ≡ eqb (peek (drop i (now (s .entry)))) 42 ⌝ }
@@ -241,7 +241,7 @@ pub(crate) fn start_at(s: &[u8]) -> usize
     0
 }
 
-// "`$` only last": the elements stop there, or at the end.
+// "`$` only last": no element begins there, or at the end. One that begins before, as a final `\$`, may end behind it.
 pub(crate) fn stop_at(s: &[u8]) -> usize
     requires { ⌜ 0 < length (now s) ⌝ }
     ensures { λ r. ⌜ r ≡ stop-of (now (s .entry)) ⌝ }

@@ -23,7 +23,7 @@ pub(crate) fn unless(flag: bool, mask: u64) -> u64
     mask
 }
 
-// The set of one byte. Each word is chosen by a test: a word at an index would be made in memory, and the machine waits for that.
+// The set of one byte, by tests and arithmetic: a word at an index would be written to memory and read again.
 pub(crate) fn only(c: u8) -> [u64; 4]
     ensures { λ r. ⌜ r ≡ words (eqb c) ⌝ }
 {

@@ -1,4 +1,4 @@
--- How a field that names a string goes: the code has the string's offset, the reader the string.
+-- How a field that names a string goes: the code has what the string may be used for, the reader the string.
 use Prim.Native.Nat.{ℕ, zero, suc, _+_, _-_, _≤_, _<_}
 use native.Mathlib.Omega.{arith}
 use native.Mathlib.Nat.{add-sub-cancel-left, le-of-suc-le-suc, not-suc-le-zero}
@@ -15,7 +15,7 @@ use Rattle.octets.specs.Lists.{pick, empty}
 use Rattle.octets.specs.Bytes.{token}
 use Rattle.pattern.specs.Answers.{is-pattern}
 use Rattle.profile.specs.Out.{good, bad, _>>=_}
-use Rattle.profile.specs.Places.{u16, word, text-at, texts, usable, uses-of, named, exactly}
+use Rattle.profile.specs.Places.{u16, word, text-at, texts, usable, use-bits, uses-of, named, exactly}
 use Rattle.profile.specs.Answers.{Table, Known}
 use Rattle.profile.proofs.Laws.{is, refused}
 
@@ -32,19 +32,11 @@ pub uses-made : (t : List ℕ) (x y z : ℕ) (b c : Bool) → x ≡ pick (not (e
     → bitOr (bitOr x y) z ≡ uses-of t
 unfolding uses-of
 uses-made t x y z b c ex eb ey ec ez =
-    ap₂ bitOr (ap₂ bitOr (ex ∙ ap (λ (e : Bool). pick (not e) 1 0) (none t) ∙ turn (empty t)) (ey ∙ ap (λ (e : Bool). pick e 2 0) eb))
+    ap₂ bitOr (ap₂ bitOr (ex ∙ ap (λ (e : Bool). pick (not e) 1 0) (none t)) (ey ∙ ap (λ (e : Bool). pick e 2 0) eb))
     (ez ∙ ap (λ (e : Bool). pick e 4 0) ec)
-  where
-    turn : (e : Bool) → _≡_ {A = ℕ} (pick (not e) 1 0) (pick e 0 1)
-    turn true = refl
-    turn false = refl
-
--- each bit by itself
-abbrev bits : Bool → Bool → Bool → ℕ
-bits a b c = bitOr (bitOr (pick a 0 1) (pick b 2 0)) (pick c 4 0)
 
 each-bit : (a b c : Bool)
-    → (not (eqb (bitAnd (bits a b c) 1) 0) ≡ not a) × (not (eqb (bitAnd (bits a b c) 2) 0) ≡ b) × (not (eqb (bitAnd (bits a b c) 4) 0) ≡ c)
+    → (not (eqb (bitAnd (use-bits a b c) 1) 0) ≡ a) × (not (eqb (bitAnd (use-bits a b c) 2) 0) ≡ b) × (not (eqb (bitAnd (use-bits a b c) 4) 0) ≡ c)
 each-bit true true true = (refl, refl, refl)
 each-bit true true false = (refl, refl, refl)
 each-bit true false true = (refl, refl, refl)
@@ -62,11 +54,11 @@ usable-pattern p t e1 q = rw (ne-eqb p 1 e1, q) refl
 module _ (p u : ℕ) (t : List ℕ) (e : u ≡ uses-of t) where
   pub use-token : p ≡ 1 → not (eqb (bitAnd u 2) 0) ≡ usable p t
   unfolding usable uses-of
-  use-token q = ap (λ (n : ℕ). not (eqb (bitAnd n 2) 0)) e ∙ each-bit (empty t) (token t) (is-pattern t) .1 ∙ sym (ap (λ (k : ℕ). usable k t) q)
+  use-token q = ap (λ (n : ℕ). not (eqb (bitAnd n 2) 0)) e ∙ each-bit (not (empty t)) (token t) (is-pattern t) .1 ∙ sym (ap (λ (k : ℕ). usable k t) q)
 
   pub use-pattern : (p ≡ 1 → ⊥) → (eqb p 2 || eqb p 4) ≡ true → not (eqb (bitAnd u 4) 0) ≡ usable p t
   unfolding usable uses-of
-  use-pattern e1 q = ap (λ (n : ℕ). not (eqb (bitAnd n 4) 0)) e ∙ each-bit (empty t) (token t) (is-pattern t) .2 ∙ usable-pattern p t e1 q
+  use-pattern e1 q = ap (λ (n : ℕ). not (eqb (bitAnd n 4) 0)) e ∙ each-bit (not (empty t)) (token t) (is-pattern t) .2 ∙ usable-pattern p t e1 q
 
   pub use-any : p ≡ 5 → true ≡ usable p t
   unfolding usable
@@ -75,7 +67,7 @@ module _ (p u : ℕ) (t : List ℕ) (e : u ≡ uses-of t) where
   pub use-other : (p ≡ 1 → ⊥) → (eqb p 2 || eqb p 4) ≡ false → (p ≡ 5 → ⊥) → not (eqb (bitAnd u 1) 0) ≡ usable p t
   unfolding usable uses-of
   use-other e1 q e5 =
-      ap (λ (n : ℕ). not (eqb (bitAnd n 1) 0)) e ∙ each-bit (empty t) (token t) (is-pattern t) .0 ∙ rw (ne-eqb p 1 e1, q, ne-eqb p 5 e5) refl
+      ap (λ (n : ℕ). not (eqb (bitAnd n 1) 0)) e ∙ each-bit (not (empty t)) (token t) (is-pattern t) .0 ∙ rw (ne-eqb p 1 e1, q, ne-eqb p 5 e5) refl
 
 -- the strings below k are judged
 pub record Told (s : List ℕ) (n : ℕ) (table uses : List ℕ) (k : ℕ) : Type 0 where
@@ -157,4 +149,4 @@ module _ (s : List ℕ) (v at : ℕ) where
 pub inside-at : (s : List ℕ) (n : ℕ) (table : List ℕ) (i o : ℕ) → Table s n table → i < n → o ≡ getD table i 0 → o + 2 + word s o ≤ length s
 inside-at s n table i o tb h e = rw e (tb .inside i h)
 
-pub ruleset uses = (is, refused, text-is, use-token, use-pattern, use-any, use-other, named-bad, named-out, named-wrong, named-yes, exactly-yes, exactly-no, exactly-bad, inside-at)
+pub ruleset uses = (is, refused, named-bad, named-out, exactly-yes, exactly-no, exactly-bad)

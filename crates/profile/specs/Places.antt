@@ -97,8 +97,11 @@ unfoldable pub usable : ℕ → List ℕ → Bool
 usable purpose t = pick (eqb purpose 1) (token t) (pick (eqb purpose 2 || eqb purpose 4) (is-pattern t) (eqb purpose 5 || not (empty t)))
 
 -- all that a string may be used for, as bits: 1 RequestURI or server, 2 Method, 4 pattern
+abbrev pub use-bits : Bool → Bool → Bool → ℕ
+use-bits server method line = bitOr (bitOr (pick server 1 0) (pick method 2 0)) (pick line 4 0)
+
 unfoldable pub uses-of : List ℕ → ℕ
-uses-of t = bitOr (bitOr (pick (empty t) 0 1) (pick (token t) 2 0)) (pick (is-pattern t) 4 0)
+uses-of t = use-bits (not (empty t)) (token t) (is-pattern t)
 
 abbrev pub absent : ℕ
 absent = 65535

@@ -3,6 +3,7 @@ ghost use mathlib.Core.Path.{_≡_};
 ghost use mathlib.Core.List.{List};
 ghost use Prim.Native.Nat.{ℕ, _+_, _≤_};
 ghost use lib.ListN.{length};
+ghost use Rattle.octets.specs.Bytes.{Classes};
 ghost use Rattle.octets.specs.Lists.{pick};
 ghost use Rattle.profile.specs.Places.{sized, named, named-or-absent, usable, uses-of, word, text-at, texts};
 ghost use Rattle.profile.specs.Answers.{field-out, Tabled, Filled, Table, Known};
@@ -75,11 +76,12 @@ fn if_so(flag: bool, value: u8) -> u8
 }
 
 // What a string may be used for, as bits: 1 RequestURI or server, 2 Method, 4 pattern.
-fn uses_of(t: &[u8]) -> u8
+fn uses_of(classes: &[u8; 256], t: &[u8]) -> u8
+    requires { ⌜ Classes (now classes) ⌝ }
     ensures { λ r. ⌜ r ≡ uses-of (now (t .entry)) ⌝ }
 {
     let some = if_so(t.len() != 0, 1);
-    let method = if_so(octets::is_token(t), 2);
+    let method = if_so(octets::is_token(classes, t), 2);
     let pattern = if_so(pattern::is_pattern(t), 4);
     some | method | pattern
 }
@@ -89,10 +91,11 @@ pub(crate) fn judge_strings(s: &[u8], table: &[u16; 1024], n: usize, uses: &mut 
     requires { ⌜ Table (now s) n (now table) × (length (now uses) ≡ 1024) ⌝ }
     ensures { λ r. ⌜ Known (now (s .entry)) n (now (table .entry)) (now (uses .exit)) ⌝ }
 {
+    let classes = octets::class_table();
     let mut k: usize = 0;
     while k < n {
         let t = text(s, octets::as_index(table[k]));
-        uses[k] = uses_of(t);
+        uses[k] = uses_of(&classes, t);
         k += 1;
     }
 }

@@ -7,16 +7,13 @@ use Rattle.octets.proofs.is_token.Statement.{statement}
 use Rattle.octets.proofs.is_token.Tie as tie
 
 abbrev Inv-loop : tie.InvT-loop
-Inv-loop s table i₀ i = Tokens s i
+Inv-loop table s i₀ i = Tokens s i
 
 abbrev μ-loop : tie.MeasureT-loop
-μ-loop s table i₀ i = length s - i
+μ-loop table s i₀ i = length s - i
 
 returns : tie.Need-returns Inv-loop μ-loop
 returns c = search token-none
-
-class-table-requires : tie.Need-class-table-requires Inv-loop μ-loop
-class-table-requires c κs = search needs
 
 loop-holds : tie.Need-loop-holds Inv-loop μ-loop
 loop-holds c = search token-first
@@ -32,16 +29,16 @@ add-i c = search needs
 
 returns-2 : tie.Need-returns-2 Inv-loop μ-loop
 returns-2 c =
-    token-no _ _ _ (c .before .before .before .before .before .loop .inv) (search needs)
-    (omega (arith, c .before .before .shared-slice-known2 .given (c .before .before .before .before .before .loop .i))) (c .before .class-in .ensures) (c .if2 .taken)
+    token-no _ _ _ (c .before .before .before .before .loop .inv) (search needs)
+    (omega (arith, c .before .before .shared-slice-known2 .given (c .before .before .before .before .loop .i))) (c .before .class-in .ensures) (c .if2 .taken)
 
 loop-less : tie.Need-loop-less Inv-loop μ-loop
 loop-less c = search needs
 
 loop-again : tie.Need-loop-again Inv-loop μ-loop
 loop-again c =
-    token-next _ _ _ (c .before .before .before .before .before .loop .inv) (search needs)
-    (omega (arith, c .before .before .shared-slice-known2 .given (c .before .before .before .before .before .loop .i))) (c .before .class-in .ensures) (c .if2 .left)
+    token-next _ _ _ (c .before .before .before .before .loop .inv) (search needs)
+    (omega (arith, c .before .before .shared-slice-known2 .given (c .before .before .before .before .loop .i))) (c .before .class-in .ensures) (c .if2 .left)
 
 returns-3 : tie.Need-returns-3 Inv-loop μ-loop
 returns-3 c = search token-end
@@ -53,7 +50,6 @@ is-token-spec =
     Inv-loop
     μ-loop
     returns
-    class-table-requires
     loop-holds
     shared-slice-read-class-in
     class-in-requires

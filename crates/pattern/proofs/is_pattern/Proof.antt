@@ -1,5 +1,5 @@
 use borrow.Author.Needs.{needs}
-use Rattle.pattern.proofs.Elements.{Counted, count-empty, stop-inside, count-start, count-lost, count-more, count-done, behind-after, behind-at}
+use Rattle.pattern.proofs.Elements.{Counted, count-empty, stop-inside, count-start, count-lost, count-more, count-full, count-done, behind-after, behind-at}
 use lib.ListN.{length}
 use Prim.Native.Nat.{_-_, _≤_}
 use native.Mathlib.Omega.{arith}
@@ -7,7 +7,7 @@ use Rattle.pattern.proofs.is_pattern.Statement.{statement}
 use Rattle.pattern.proofs.is_pattern.Tie as tie
 
 abbrev Inv-loop : tie.InvT-loop
-Inv-loop s stop i₀ first₀ n₀ i first n = Counted s i first n
+Inv-loop s stop i₀ first₀ n₀ i first n = Counted s i first n × (n ≤ 60)
 
 abbrev μ-loop : tie.MeasureT-loop
 μ-loop s stop i₀ first₀ n₀ i first n = length s - i
@@ -22,7 +22,7 @@ start-at-requires : tie.Need-start-at-requires Inv-loop μ-loop
 start-at-requires c κs = search needs
 
 loop-holds : tie.Need-loop-holds Inv-loop μ-loop
-loop-holds c = search count-start
+loop-holds c = (search count-start, omega arith)
 
 atom-at-requires : tie.Need-atom-at-requires Inv-loop μ-loop
 atom-at-requires c κs = search (needs, stop-inside)
@@ -30,26 +30,29 @@ atom-at-requires c κs = search (needs, stop-inside)
 returns-2 : tie.Need-returns-2 Inv-loop μ-loop
 returns-2 c = search count-lost
 
+returns-3 : tie.Need-returns-3 Inv-loop μ-loop
+returns-3 c = search count-full
+
 star-at-requires : tie.Need-star-at-requires Inv-loop μ-loop
 star-at-requires c κs = search needs
 
 behind-requires : tie.Need-behind-requires Inv-loop μ-loop
-behind-requires c κs = omega (arith, c .before .before .atom-at .ensures .inside)
+behind-requires c κs = omega (arith, c .before .before .before .atom-at .ensures .inside)
 
 add-n : tie.Need-add-n Inv-loop μ-loop
 add-n c = omega arith
 
 loop-less : tie.Need-loop-less Inv-loop μ-loop
 loop-less c =
-    let a = c .before .before .before .atom-at in
+    let a = c .before .before .before .before .atom-at in
     let j : a .result .end ≤ c .behind .result = search behind-after in
-    omega (arith, a .ensures .forward (c .before .before .if2 .left))
+    omega (arith, a .ensures .forward (c .before .before .before .if2 .left))
 
 loop-again : tie.Need-loop-again Inv-loop μ-loop
-loop-again c = search (count-more, behind-at)
+loop-again c = (search (count-more, behind-at), omega arith)
 
-returns-3 : tie.Need-returns-3 Inv-loop μ-loop
-returns-3 c = search count-done
+returns-4 : tie.Need-returns-4 Inv-loop μ-loop
+returns-4 c = search count-done
 
 pub is-pattern-spec : {M : Type 1} → statement M
 is-pattern-spec =
@@ -63,9 +66,10 @@ is-pattern-spec =
     loop-holds
     atom-at-requires
     returns-2
+    returns-3
     star-at-requires
     behind-requires
     add-n
     loop-less
     loop-again
-    returns-3)
+    returns-4)

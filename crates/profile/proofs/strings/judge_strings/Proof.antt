@@ -5,10 +5,13 @@ use Rattle.profile.proofs.strings.judge_strings.Statement.{statement}
 use Rattle.profile.proofs.strings.judge_strings.Tie as tie
 
 abbrev Inv-loop : tie.InvT-loop
-Inv-loop s table n uses₀ k₀ uses k = Told s n table uses k
+Inv-loop s table n uses₀ classes k₀ uses k = Told s n table uses k
 
 abbrev μ-loop : tie.MeasureT-loop
-μ-loop s table n uses₀ k₀ uses k = n - k
+μ-loop s table n uses₀ classes k₀ uses k = n - k
+
+class-table-requires : tie.Need-class-table-requires Inv-loop μ-loop
+class-table-requires c κs = search needs
 
 loop-holds : tie.Need-loop-holds Inv-loop μ-loop
 loop-holds c = search told-none
@@ -49,6 +52,7 @@ judge-strings-spec =
     (tie.spec
     Inv-loop
     μ-loop
+    class-table-requires
     loop-holds
     mul-as-index
     element-copy-out-as-index
