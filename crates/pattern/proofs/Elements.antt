@@ -27,13 +27,20 @@ use Rattle.pattern.proofs.Places.{peek-in, peek-inside}
 
 -- ---- behind an atom and its `*`
 
+-- whether a `*` follows an atom that ends at e, and where what is behind both begins
+abbrev pub repeats-at : List ℕ → ℕ → Bool
+repeats-at s e = eqb (peek (drop e s)) 42
+
+abbrev pub behind-of : List ℕ → ℕ → ℕ
+behind-of s e = pick (repeats-at s e) (e + 1) e
+
 star-inside : (s : List ℕ) (e : ℕ) → peek (drop e s) ≡ 42 → e < length s
 star-inside s e q = peek-inside s e (λ z. let y : _≡_ {A = ℕ} 42 256 = sym q ∙ z in absurd (omega arith))
 
-behind-le : (s : List ℕ) (e : ℕ) → e ≤ length s → pick (eqb (peek (drop e s)) 42) (e + 1) e ≤ length s
-behind-le s e h = go (eqb (peek (drop e s)) 42) refl
+behind-le : (s : List ℕ) (e : ℕ) → e ≤ length s → behind-of s e ≤ length s
+behind-le s e h = go (repeats-at s e) refl
   where
-    go : (t : Bool) → eqb (peek (drop e s)) 42 ≡ t → pick t (e + 1) e ≤ length s
+    go : (t : Bool) → repeats-at s e ≡ t → pick t (e + 1) e ≤ length s
     go true q = let l : e < length s = star-inside s e (eqb-true (peek (drop e s)) 42 q) in omega arith
     go false q = h
 
@@ -43,7 +50,7 @@ behind-ge t e = either (λ (n : ℕ). e ≤ n) t (e + 1) e (omega arith) (omega 
 pub behind-after : (t : Bool) (e j : ℕ) → j ≡ pick t (e + 1) e → e ≤ j
 behind-after t e j q = subst⁻¹ (λ (k : ℕ). e ≤ k) q (behind-ge t e)
 
-pub behind-at : (s : List ℕ) (e j : ℕ) (t : Bool) → t ≡ eqb (peek (drop e s)) 42 → j ≡ pick t (e + 1) e → j ≡ pick (eqb (peek (drop e s)) 42) (e + 1) e
+pub behind-at : (s : List ℕ) (e j : ℕ) (t : Bool) → t ≡ repeats-at s e → j ≡ pick t (e + 1) e → j ≡ behind-of s e
 behind-at s e j t n q = q ∙ ap (λ (b : Bool). pick b (e + 1) e) n
 
 pub behind-drop : (t : Bool) (s : List ℕ) (e : ℕ) → pick t (drop 1 (drop e s)) (drop e s) ≡ drop (pick t (e + 1) e) s
@@ -124,7 +131,7 @@ pub record Step (build : Bool) (s : List ℕ) (i : ℕ) (first : Bool) (end : �
   pub value : Atom
   pub drawing : drawn build value ≡ set
   pub left : body-of first (drop i s)
-      ≡ with-elem (elem (eqb (peek (drop end s)) 42) value) (body-of false (drop (pick (eqb (peek (drop end s)) 42) (end + 1) end) s))
+      ≡ with-elem (elem (repeats-at s end) value) (body-of false (drop (behind-of s end) s))
 
 pub body-end : (s : List ℕ) (i : ℕ) (first : Bool) → length s ≤ i → body-of first (drop i s) ≡ some (record { parts = []; anchored = false })
 body-end s i first h = ap (body-of first) (drop-of-length-le s h) ∙ body-none first
@@ -155,13 +162,12 @@ module _ (s : List ℕ) (i : ℕ) (first : Bool) (h : i < length s) where
     pub body-more : (r .end ≡ 0 → ⊥) → Step build s i first (r .end) (r .set)
     body-more n =
         let g = map-some (drawn build) (atom first b rest) (r .set) (drop (r .end) s) (piece-found a n) in
-        let t = eqb (peek (drop (r .end) s)) 42 in
         record {
           value = g .value;
           drawing = g .drawing;
           left =
               here-is false e ∙ ap going (g .is)
-              ∙ ap (λ (l : List ℕ). with-elem (elem (eqb (peek (drop (r .end) s)) 42) (g .value)) (body-of false l)) (behind-drop (eqb (peek (drop (r .end) s)) 42) s (r .end));
+              ∙ ap (λ (l : List ℕ). with-elem (elem (repeats-at s (r .end)) (g .value)) (body-of false l)) (behind-drop (repeats-at s (r .end)) s (r .end));
         }
 
 -- nothing is left there but the anchor
@@ -254,23 +260,21 @@ module _ (s : List ℕ) (i : ℕ) (first : Bool) (n : ℕ) (c : Counted s i firs
     pub count-lost : r .end ≡ 0 → false ≡ is-pattern s
     count-lost z = sym (ap (counted n) (body-lost s i first (stop-inside s i stop q h) build r a (stop-before s i stop q h) z)) ∙ c .left
 
-    pub count-more : (j : ℕ) → (r .end ≡ 0 → ⊥) → j ≡ pick (eqb (peek (drop (r .end) s)) 42) (r .end + 1) (r .end) → Counted s j false (n + 1)
+    pub count-more : (j : ℕ) → (r .end ≡ 0 → ⊥) → j ≡ behind-of s (r .end) → Counted s j false (n + 1)
     count-more j m w =
         let g = body-more s i first (stop-inside s i stop q h) build r a (stop-before s i stop q h) m in
-        let x = elem (eqb (peek (drop (r .end) s)) 42) (g .value) in
         let f : i < r .end = a .forward m in
         let l : n ≤ i = c .few in
         subst⁻¹ (λ (k : ℕ). Counted s k false (n + 1)) w
         (record {
           left =
-              sym (counted-more (elem (eqb (peek (drop (r .end) s)) 42) (g .value)) n (body-of false (drop (pick (eqb (peek (drop (r .end) s)) 42) (r .end + 1) (r .end)) s)))
+              sym (counted-more (elem (repeats-at s (r .end)) (g .value)) n (body-of false (drop (behind-of s (r .end)) s)))
               ∙ sym (ap (counted n) (g .left)) ∙ c .left;
-          few = omega (arith, behind-ge (eqb (peek (drop (r .end) s)) 42) (r .end));
+          few = omega (arith, behind-ge (repeats-at s (r .end)) (r .end));
           inside = behind-le s (r .end) (a .inside);
         })
 
     -- one more than 60
     pub count-full : (r .end ≡ 0 → ⊥) → n ≡ 60 → false ≡ is-pattern s
     count-full m full =
-        count-many s (pick (eqb (peek (drop (r .end) s)) 42) (r .end + 1) (r .end)) false (n + 1)
-        (count-more (pick (eqb (peek (drop (r .end) s)) 42) (r .end + 1) (r .end)) m refl) (omega arith)
+        count-many s (behind-of s (r .end)) false (n + 1) (count-more (behind-of s (r .end)) m refl) (omega arith)

@@ -21,7 +21,7 @@ use Rattle.pattern.specs.Reading.{atom, elem, Body, read-pattern}
 use Rattle.pattern.specs.Drawn.{drawn}
 use Rattle.pattern.specs.declared.edition1.Marks.{Marks}
 use Rattle.pattern.specs.declared.reader.Piece.{Piece}
-use Rattle.pattern.proofs.Elements.{with-elem, Step, anchor-at, body-stop, body-more, finished, read-is, count-empty, starred-elem}
+use Rattle.pattern.proofs.Elements.{repeats-at, behind-of, with-elem, Step, anchor-at, body-stop, body-more, finished, read-is, count-empty, starred-elem}
 use Rattle.pattern.proofs.Front.{Stands, front-parts}
 use Rattle.pattern.proofs.Positions.{at-bit, befores-length}
 
@@ -118,39 +118,33 @@ module _ (s : List ℕ) (w : Whole s) (i : ℕ) (first : Bool) (m : Marks) (f : 
 
   module _ (h : i < length s) (e : anchor-at s i ≡ false) (r : Piece) (a : PieceAt (map-got (drawn true) (atom first (getD s i 0) (drop (i + 1) s))) s i r)
       (n : r .end ≡ 0 → ⊥) where
-    abbrev repeats : Bool
-    repeats = eqb (peek (drop (r .end) s)) 42
-
-    abbrev j : ℕ
-    j = pick repeats (r .end + 1) (r .end)
-
     -- the element at i, and those behind it
     record Split : Type 0 where
       value : Atom
       more : Body
-      reads : body-of false (drop j s) ≡ some more
-      is : f .rest ≡ record { parts = elem repeats value ∷ more .parts; anchored = more .anchored }
+      reads : body-of false (drop (behind-of s (r .end)) s) ≡ some more
+      is : f .rest ≡ record { parts = elem (repeats-at s (r .end)) value ∷ more .parts; anchored = more .anchored }
 
     split : Split
-    split = go (body-more s i first h true r a e n) (body-of false (drop j s)) refl
+    split = go (body-more s i first h true r a e n) (body-of false (drop (behind-of s (r .end)) s)) refl
       where
-        go : (g : Step true s i first (r .end) (r .set)) (o : Option Body) → body-of false (drop j s) ≡ o → Split
+        go : (g : Step true s i first (r .end) (r .set)) (o : Option Body) → body-of false (drop (behind-of s (r .end)) s) ≡ o → Split
         go g none q =
-            let z : _≡_ {A = Option Body} none (some (f .rest)) = sym (g .left ∙ ap (with-elem (elem repeats (g .value))) q) ∙ f .reads in
+            let z : _≡_ {A = Option Body} none (some (f .rest)) = sym (g .left ∙ ap (with-elem (elem (repeats-at s (r .end)) (g .value))) q) ∙ f .reads in
             absurd (let y : _≡_ {A = ℕ} 0 1 = cc in omega arith)
         go g (some more) q =
-            let z : _≡_ {A = Option Body} (some (record { parts = elem repeats (g .value) ∷ more .parts; anchored = more .anchored })) (some (f .rest)) =
-            sym (g .left ∙ ap (with-elem (elem repeats (g .value))) q) ∙ f .reads
+            let z : _≡_ {A = Option Body} (some (record { parts = elem (repeats-at s (r .end)) (g .value) ∷ more .parts; anchored = more .anchored })) (some (f .rest)) =
+            sym (g .left ∙ ap (with-elem (elem (repeats-at s (r .end)) (g .value))) q) ∙ f .reads
             in
             record { value = g .value; more = more; reads = q; is = cc }
 
-    pub fill-more : (i′ : ℕ) (m′ : Marks) (t : Bool) → t ≡ repeats → i′ ≡ j → m′ ≡ mark m t → Filling s w i′ false m′
+    pub fill-more : (i′ : ℕ) (m′ : Marks) (t : Bool) → t ≡ repeats-at s (r .end) → i′ ≡ behind-of s (r .end) → m′ ≡ mark m t → Filling s w i′ false m′
     fill-more i′ m′ t et ei em =
         let x = split in
-        let p : f .rest .parts ≡ elem repeats (x .value) ∷ x .more .parts = ap (λ (b : Body). b .parts) (x .is) in
-        let one : starred (elem repeats (x .value)) ≡ t = starred-elem repeats (x .value) ∙ sym et in
+        let p : f .rest .parts ≡ elem (repeats-at s (r .end)) (x .value) ∷ x .more .parts = ap (λ (b : Body). b .parts) (x .is) in
+        let one : starred (elem (repeats-at s (r .end)) (x .value)) ≡ t = starred-elem (repeats-at s (r .end)) (x .value) ∙ sym et in
         subst⁻¹ (λ (k : ℕ). Filling s w k false m′) ei
-        (subst⁻¹ (λ (k : Marks). Filling s w j false k) em
+        (subst⁻¹ (λ (k : Marks). Filling s w (behind-of s (r .end)) false k) em
         (record {
           rest = x .more;
           reads = x .reads;

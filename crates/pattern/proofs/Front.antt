@@ -23,7 +23,7 @@ use Rattle.pattern.specs.declared.edition1.Marks.{Marks}
 use Rattle.pattern.specs.declared.reader.Piece.{Piece}
 use Rattle.pattern.proofs.Atoms.{piece-found, piece-lost, map-none, map-some}
 use Rattle.pattern.proofs.Countdown.{Within, drop-le, atom-within}
-use Rattle.pattern.proofs.Elements.{anchor-at, behind-drop, body-end, body-stop, starred-elem, atom-elem}
+use Rattle.pattern.proofs.Elements.{repeats-at, behind-of, anchor-at, behind-drop, body-end, body-stop, starred-elem, atom-elem}
 
 -- ---- the number only counts down
 
@@ -92,7 +92,7 @@ front-parts first s b e = parts-by (suc (length s)) first s b e
 record Ahead (s : List ℕ) (i : ℕ) (first : Bool) (end : ℕ) (set : List ℕ) : Type 0 where
   value : Atom
   drawing : drawn true value ≡ set
-  left : front-of first (drop i s) ≡ elem (eqb (peek (drop end s)) 42) value ∷ front-of false (drop (pick (eqb (peek (drop end s)) 42) (end + 1) end) s)
+  left : front-of first (drop i s) ≡ elem (repeats-at s end) value ∷ front-of false (drop (behind-of s end) s)
 
 module _ (s : List ℕ) (i : ℕ) (first : Bool) (h : i < length s) where
   abbrev b : ℕ
@@ -119,7 +119,7 @@ module _ (s : List ℕ) (i : ℕ) (first : Bool) (h : i < length s) where
           drawing = g .drawing;
           left =
               here-is false e ∙ ap (front-from (λ u. front-of false u)) (g .is)
-              ∙ ap (λ (l : List ℕ). elem (eqb (peek (drop (r .end) s)) 42) (g .value) ∷ front-of false l) (behind-drop (eqb (peek (drop (r .end) s)) 42) s (r .end));
+              ∙ ap (λ (l : List ℕ). elem (repeats-at s (r .end)) (g .value) ∷ front-of false l) (behind-drop (repeats-at s (r .end)) s (r .end));
         }
 
 -- ---- stores past the end
@@ -181,26 +181,20 @@ module _ (fold : Bool) (s : List ℕ) (old-sets : List (List ℕ)) (old-before :
         pub stands-lost : r .end ≡ 0 → Stands ss bs
         stands-lost z = nothing-left (front-lost s i first h r a e z)
 
-        abbrev repeats : Bool
-        repeats = eqb (peek (drop (r .end) s)) 42
-
-        abbrev j : ℕ
-        j = pick repeats (r .end + 1) (r .end)
-
         pub store-more : (r .end ≡ 0 → ⊥) → (i′ : ℕ) (m′ : Marks) (u : List ℕ) (v : ℕ) (t : Bool) → ((x : Atom) → r .set ≡ drawn true x → u ≡ set-as fold x)
-            → t ≡ repeats → i′ ≡ j → m′ ≡ mark m t → v ≡ before-at m t → Storing i′ false m′ (set ss (m .at) u) (set bs (m .at) v)
+            → t ≡ repeats-at s (r .end) → i′ ≡ behind-of s (r .end) → m′ ≡ mark m t → v ≡ before-at m t → Storing i′ false m′ (set ss (m .at) u) (set bs (m .at) v)
         store-more n i′ m′ u v t eu et ei em ev =
             let x = front-more s i first h r a e n in
-            let one : starred (elem repeats (x .value)) ≡ t = starred-elem repeats (x .value) ∙ sym et in
-            let draw : set-as fold (atom-of (elem repeats (x .value))) ≡ u = ap (set-as fold) (atom-elem repeats (x .value)) ∙ sym (eu (x .value) (sym (x .drawing))) in
+            let one : starred (elem (repeats-at s (r .end)) (x .value)) ≡ t = starred-elem (repeats-at s (r .end)) (x .value) ∙ sym et in
+            let draw : set-as fold (atom-of (elem (repeats-at s (r .end)) (x .value))) ≡ u = ap (set-as fold) (atom-elem (repeats-at s (r .end)) (x .value)) ∙ sym (eu (x .value) (sym (x .drawing))) in
             subst⁻¹ (λ (k : ℕ). Storing k false m′ (set ss (m .at) u) (set bs (m .at) v)) ei
-            (subst⁻¹ (λ (k : Marks). Storing j false k (set ss (m .at) u) (set bs (m .at) v)) em
+            (subst⁻¹ (λ (k : Marks). Storing (behind-of s (r .end)) false k (set ss (m .at) u) (set bs (m .at) v)) em
             (record {
               sets-on =
-                  ap₂ (λ (k : ℕ) (y : List ℕ). sets (set ss (m .at) y) k (sets-of fold (front-of false (drop j s)))) (add-one (m .at)) (sym draw)
+                  ap₂ (λ (k : ℕ) (y : List ℕ). sets (set ss (m .at) y) k (sets-of fold (front-of false (drop (behind-of s (r .end)) s)))) (add-one (m .at)) (sym draw)
                   ∙ ap (λ (l : List Elem). sets ss (m .at) (sets-of fold l)) (sym (x .left)) ∙ f .sets-on;
               before-on =
-                  ap₂ (λ (k : ℕ) (y : ℕ). sets (set bs (m .at) y) k (befores (mark m t) (front-of false (drop j s)))) (add-one (m .at)) ev
-                  ∙ ap (λ (b : Bool). sets (set bs (m .at) (before-at m b)) (suc (m .at)) (befores (mark m b) (front-of false (drop j s)))) (sym one)
+                  ap₂ (λ (k : ℕ) (y : ℕ). sets (set bs (m .at) y) k (befores (mark m t) (front-of false (drop (behind-of s (r .end)) s)))) (add-one (m .at)) ev
+                  ∙ ap (λ (b : Bool). sets (set bs (m .at) (before-at m b)) (suc (m .at)) (befores (mark m b) (front-of false (drop (behind-of s (r .end)) s)))) (sym one)
                   ∙ ap (λ (l : List Elem). sets bs (m .at) (befores m l)) (sym (x .left)) ∙ f .before-on;
             }))

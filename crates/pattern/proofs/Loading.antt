@@ -18,7 +18,7 @@ use Rattle.pattern.specs.Reading.{atom, read-pattern}
 use Rattle.pattern.specs.Drawn.{drawn}
 use Rattle.pattern.specs.declared.edition1.Marks.{Marks}
 use Rattle.pattern.specs.declared.reader.Piece.{Piece}
-use Rattle.pattern.proofs.Elements.{anchor-at, stop-inside, stop-before, Counted, count-empty, count-start, count-lost, count-more, count-full, count-done}
+use Rattle.pattern.proofs.Elements.{repeats-at, behind-of, anchor-at, stop-inside, stop-before, Counted, count-empty, count-start, count-lost, count-more, count-full, count-done}
 use Rattle.pattern.proofs.Positions.{at-bit}
 use Rattle.pattern.proofs.Front.{Stands, Storing, stands-empty, stands-stop, stands-lost, stands-many, store-start, store-more}
 use Rattle.pattern.proofs.Filling.{Fills, fill-start, fill-stop, fill-more, prepare-refused, prepare-on, prepared-ready}
@@ -87,13 +87,7 @@ module _ (fold : Bool) (s : List ℕ) (old-sets : List (List ℕ)) (old-before :
               (stands-lost fold s old-sets old-before i first m ss bs (l .stores) inside no-anchor r a z)
 
           module _ (n : r .end ≡ 0 → ⊥) where
-            abbrev repeats : Bool
-            repeats = eqb (peek (drop (r .end) s)) 42
-
-            abbrev j : ℕ
-            j = pick repeats (r .end + 1) (r .end)
-
-            counts-on : (i′ : ℕ) → i′ ≡ j → Counted s i′ false (m .at + 1)
+            counts-on : (i′ : ℕ) → i′ ≡ behind-of s (r .end) → Counted s i′ false (m .at + 1)
             counts-on i′ q = count-more s i first (m .at) (l .counts) stop w k true r a i′ n q
 
             pub load-many : m .at ≡ 60 → (h : Shape) → h ≡ no-shape → Loaded fold s h old-sets ss old-before bs
@@ -103,8 +97,8 @@ module _ (fold : Bool) (s : List ℕ) (old-sets : List (List ℕ)) (old-before :
             pub load-room : (m .at ≡ 60 → ⊥) → m .at < 60
             load-room free = let w : m .at ≤ 60 = l .low in omega arith
 
-            load-more : (m .at ≡ 60 → ⊥) → (i′ : ℕ) (m′ : Marks) (u : List ℕ) (v : ℕ) (b : Bool) → ((x : Atom) → r .set ≡ drawn true x → u ≡ set-as fold x) → b ≡ repeats
-                → i′ ≡ j → m′ ≡ mark m b → v ≡ before-at m b → Loading i′ false m′ (set ss (m .at) u) (set bs (m .at) v)
+            load-more : (m .at ≡ 60 → ⊥) → (i′ : ℕ) (m′ : Marks) (u : List ℕ) (v : ℕ) (b : Bool) → ((x : Atom) → r .set ≡ drawn true x → u ≡ set-as fold x) → b ≡ repeats-at s (r .end)
+                → i′ ≡ behind-of s (r .end) → m′ ≡ mark m b → v ≡ before-at m b → Loading i′ false m′ (set ss (m .at) u) (set bs (m .at) v)
             load-more free i′ m′ u v b eu eb ei em ev =
                 let one : m′ .at ≡ m .at + 1 = ap (λ (x : Marks). x .at) em in
                 record {
@@ -116,19 +110,19 @@ module _ (fold : Bool) (s : List ℕ) (old-sets : List (List ℕ)) (old-before :
                   room-before = length-set bs (m .at) v ∙ l .room-before;
                 }
               where
-                counts-at : (i′ : ℕ) → i′ ≡ j → (w : ℕ) → w ≡ m .at + 1 → Counted s i′ false w
+                counts-at : (i′ : ℕ) → i′ ≡ behind-of s (r .end) → (w : ℕ) → w ≡ m .at + 1 → Counted s i′ false w
                 counts-at i′ ei w q = rw q (counts-on i′ ei)
 
             -- the element stands once, or a `*` follows it
-            module _ (free : m .at ≡ 60 → ⊥) (u : List ℕ) (eu : (x : Atom) → r .set ≡ drawn true x → u ≡ set-as fold x) (t : Bool) (f : t ≡ repeats) (m′ : Marks) (v : ℕ) where
+            module _ (free : m .at ≡ 60 → ⊥) (u : List ℕ) (eu : (x : Atom) → r .set ≡ drawn true x → u ≡ set-as fold x) (t : Bool) (f : t ≡ repeats-at s (r .end)) (m′ : Marks) (v : ℕ) where
               pub load-starred : t ≡ true → m′ ≡ mark m true → v ≡ before-at m true → Loading (r .end + 1) false m′ (set ss (m .at) u) (set bs (m .at) v)
               load-starred z em ev =
-                  let e : true ≡ repeats = sym z ∙ f in
+                  let e : true ≡ repeats-at s (r .end) = sym z ∙ f in
                   load-more free (r .end + 1) m′ u v true eu e (ap (λ (b : Bool). pick b (r .end + 1) (r .end)) e) em ev
 
               pub load-once : t ≡ false → m′ ≡ mark m false → v ≡ before-at m false → Loading (r .end) false m′ (set ss (m .at) u) (set bs (m .at) v)
               load-once z em ev =
-                  let e : false ≡ repeats = sym z ∙ f in
+                  let e : false ≡ repeats-at s (r .end) = sym z ∙ f in
                   load-more free (r .end) m′ u v false eu e (ap (λ (b : Bool). pick b (r .end + 1) (r .end)) e) em ev
 
 -- ---- what the machine tells
