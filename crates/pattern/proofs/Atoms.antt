@@ -1,6 +1,6 @@
 -- The atoms by place: lists, pairs, `.`, `*` and ordinary bytes.
-use mathlib.Core.Path.{_≡_, refl, sym, ap, ap₂, _∙_}
-use mathlib.Core.Bool.{Bool, true, false, not, _&&_, true≢false}
+use mathlib.Core.Path.{_≡_, refl, sym, ap, ap₂, _∙_, subst, subst⁻¹}
+use mathlib.Core.Bool.{Bool, true, false, not, _&&_, _||_, true≢false}
 use mathlib.Core.Option.{Option, none, some}
 use mathlib.Core.List.{List}
 use Prim.Native.Nat.{ℕ, _+_, _<_, _≤_}
@@ -8,7 +8,7 @@ use native.Mathlib.Omega.{arith}
 use lib.Dec.{eqb}
 use lib.ListN.{length, getD, drop}
 use lib.Seq.{drop-drop}
-use borrow.Author.Tests.{ne-eqb, eq-eqb, eqb-true, not-true, not-false}
+use borrow.Author.Tests.{ne-eqb, eq-eqb, eqb-true, eqb-false, not-true, not-false}
 use Rattle.octets.specs.Lists.{text, pick, some-of, peek}
 use Rattle.octets.specs.Option.{_>>=_}
 use Rattle.pattern.specs.Pattern.{Range, Atom, byte, dot, list}
@@ -83,7 +83,7 @@ module _ (s : List ℕ) (i : ℕ) (build : Bool) (r : Piece) (next : ℕ) (n : n
   unfolding bracket-by
   bracket-is t e = ap (λ (x : Bool). bracket-by x (pick x (drop 1 (drop i s)) (drop i s))) (ap (λ (k : ℕ). eqb k 94) (sym n) ∙ e)
 
-  pub bracket-caret : next ≡ 94 → PieceAt (map-got (λ l. drawn build (list true l)) (items-of true (drop (i + 1) s))) s (i + 1) r
+  bracket-caret : next ≡ 94 → PieceAt (map-got (λ l. drawn build (list true l)) (items-of true (drop (i + 1) s))) s (i + 1) r
       → PieceAt (map-got (drawn build) (bracket (drop i s))) s i r
   unfolding bracket-by
   bracket-caret e a =
@@ -92,7 +92,7 @@ module _ (s : List ℕ) (i : ℕ) (build : Bool) (r : Piece) (next : ℕ) (n : n
       ∙ by-list build true (items-of true (drop (i + 1) s)))
       (omega arith) a
 
-  pub bracket-plain : (next ≡ 94 → ⊥) → PieceAt (map-got (λ l. drawn build (list false l)) (items-of true (drop i s))) s i r
+  bracket-plain : (next ≡ 94 → ⊥) → PieceAt (map-got (λ l. drawn build (list false l)) (items-of true (drop i s))) s i r
       → PieceAt (map-got (drawn build) (bracket (drop i s))) s i r
   unfolding bracket-by
   bracket-plain e a =
@@ -100,9 +100,16 @@ module _ (s : List ℕ) (i : ℕ) (build : Bool) (r : Piece) (next : ℕ) (n : n
       (ap (map-got (drawn build)) (bracket-is false (ne-eqb next 94 e)) ∙ by-list build false (items-of true (drop i s)))
       (omega arith) a
 
--- a byte that is `^` stands in the pattern
-pub caret-inside : (s : List ℕ) (i next : ℕ) → next ≡ peek (drop i s) → next ≡ 94 → i < length s
-caret-inside s i next n e = peek-inside s i (λ z. let q : _≡_ {A = ℕ} 94 256 = sym e ∙ n ∙ z in absurd (omega arith))
+  pub bracket-from : (from : ℕ) → from ≡ pick (eqb next 94) (i + 1) i → PieceAt (map-got (λ l. drawn build (list (eqb next 94) l)) (items-of true (drop from s))) s from r
+      → PieceAt (map-got (drawn build) (bracket (drop i s))) s i r
+  bracket-from from q a = go (eqb next 94) refl q a
+    where
+      go : (t : Bool) → eqb next 94 ≡ t → from ≡ pick t (i + 1) i → PieceAt (map-got (λ l. drawn build (list t l)) (items-of true (drop from s))) s from r
+          → PieceAt (map-got (drawn build) (bracket (drop i s))) s i r
+      go true e q a =
+          bracket-caret (eqb-true next 94 e) (subst (λ (k : ℕ). PieceAt (map-got (λ l. drawn build (list true l)) (items-of true (drop k s))) s k r) q a)
+      go false e q a =
+          bracket-plain (eqb-false next 94 e) (subst (λ (k : ℕ). PieceAt (map-got (λ l. drawn build (list false l)) (items-of true (drop k s))) s k r) q a)
 
 -- ---- pairs
 
@@ -171,3 +178,20 @@ module _ (s : List ℕ) (i : ℕ) (first build : Bool) (h : i < length s) where
 
     pub atom-byte : (set : List ℕ) → (eqb b 42 && not first) ≡ false → set ≡ drawn build (byte b) → PieceAt whole s i (record { end = i + 1; set = set })
     atom-byte set e q = one-byte (byte b) set (ordinary (eqb b 42) refl e) q
+
+  -- none of the four: each is told from the byte
+  pub atom-plain : (set : List ℕ) (t : Bool) → t ≡ not (some-of (eqb b) (text ".[\\*")) → t ≡ true → set ≡ drawn build (byte b)
+      → PieceAt whole s i (record { end = i + 1; set = set })
+  atom-plain set t e y q = one-byte (byte b) set (go (eqb b 46) refl (eqb b 91) refl (eqb b 92) refl (eqb b 42) refl (sym e ∙ y)) q
+    where
+      go : (d : Bool) → eqb b 46 ≡ d → (l : Bool) → eqb b 91 ≡ l → (p : Bool) → eqb b 92 ≡ p → (a : Bool) → eqb b 42 ≡ a
+          → not (d || (l || (p || (a || false)))) ≡ true → atom first b rest ≡ read (byte b) rest
+      go false e₁ false e₂ false e₃ false e₄ n = rw (e₁, e₂, e₃, e₄) refl
+      go true e₁ l e₂ p e₃ a e₄ n = absurd (true≢false (sym n))
+      go false e₁ true e₂ p e₃ a e₄ n = absurd (true≢false (sym n))
+      go false e₁ false e₂ true e₃ a e₄ n = absurd (true≢false (sym n))
+      go false e₁ false e₂ false e₃ true e₄ n = absurd (true≢false (sym n))
+
+  -- whether sets are asked for is known
+  pub atom-built : (r : Piece) (t : Bool) → build ≡ t → PieceAt (map-got (drawn t) (atom first b rest)) s i r → PieceAt whole s i r
+  atom-built r t e a = subst⁻¹ (λ (x : Bool). PieceAt (map-got (drawn x) (atom first b rest)) s i r) e a

@@ -2,7 +2,7 @@
 ghost use mathlib.Core.Path.{_≡_};
 ghost use mathlib.Core.Bool.{true, false, not, _&&_};
 ghost use mathlib.Core.List.{List};
-ghost use Prim.Native.Nat.{ℕ, _+_, _<_};
+ghost use Prim.Native.Nat.{ℕ, _+_, _<_, _≤_};
 ghost use lib.Dec.{eqb};
 ghost use lib.ListN.{length, getD, drop};
 ghost use Rattle.octets.specs.Lists.{text, pick, some-of, peek};
@@ -160,12 +160,11 @@ fn bracket_of(s: &[u8], from: usize, negated: bool, build: bool) -> Piece
 
 // "`^` first"
 fn bracket_at(s: &[u8], i: usize, build: bool) -> Piece
+    requires { ⌜ i ≤ length (now s) ⌝ }
     ensures { λ r. ⌜ PieceAt (map-got (drawn build) (bracket (drop i (now (s .entry))))) (now (s .entry)) i r ⌝ }
 {
-    if peek_at(s, i) == 94 {
-        return bracket_of(s, i + 1, true, build);
-    }
-    bracket_of(s, i, false, build)
+    let negated = peek_at(s, i) == 94;
+    bracket_of(s, behind(i, negated), negated, build)
 }
 
 // "`\` before one of `. [ \ * ^ $`"
@@ -186,16 +185,12 @@ fn escaped_at(s: &[u8], i: usize, build: bool) -> Piece
     Piece { end: i + 1, set }
 }
 
-// The atom that begins at i. "`*` first, or right after the leading `^`, is ordinary"; any other that begins an atom is refused.
-pub(crate) fn atom_at(s: &[u8], i: usize, first: bool, build: bool) -> Piece
-    requires { ⌜ i < length (now s) ⌝ }
+// A list, a pair or a `*`. "`*` first, or right after the leading `^`, is ordinary"; any other that begins an atom is refused.
+fn special_at(s: &[u8], i: usize, first: bool, build: bool) -> Piece
+    requires { ⌜ (i < length (now s)) × (getD (now s) i 0 ≡ 46 → ⊥) ⌝ }
     ensures { λ r. ⌜ PieceAt (map-got (drawn build) (atom first (getD (now (s .entry)) i 0) (drop (i + 1) (now (s .entry))))) (now (s .entry)) i r ⌝ }
 {
     let b = s[i];
-    if b == 46 {
-        let set = any(build);
-        return Piece { end: i + 1, set };
-    }
     if b == 91 {
         return bracket_at(s, i + 1, build);
     }
@@ -207,6 +202,34 @@ pub(crate) fn atom_at(s: &[u8], i: usize, first: bool, build: bool) -> Piece
     }
     let set = lone(build, b);
     Piece { end: i + 1, set }
+}
+
+// A byte that stands for itself wherever it stands.
+fn is_plain(b: u8) -> bool
+    ensures { λ r. ⌜ r ≡ not (some-of (eqb b) (text ".[\\*")) ⌝ }
+{
+    !((b == 46) | (b == 91) | (b == 92) | (b == 42))
+}
+
+// The atom that begins at i. Nearly all are plain bytes, so that both loops over atoms hold this, and call for the rest.
+pub(crate) fn atom_at(s: &[u8], i: usize, first: bool, build: bool) -> Piece
+    requires { ⌜ i < length (now s) ⌝ }
+    ensures { λ r. ⌜ PieceAt (map-got (drawn build) (atom first (getD (now (s .entry)) i 0) (drop (i + 1) (now (s .entry))))) (now (s .entry)) i r ⌝ }
+{
+    let b = s[i];
+    if is_plain(b) {
+        let set = lone(build, b);
+        return Piece { end: i + 1, set };
+    }
+    if b == 46 {
+        let set = any(build);
+        return Piece { end: i + 1, set };
+    }
+    // With one call alone the compiler would put it in here, and this nowhere.
+    if build {
+        return special_at(s, i, first, true);
+    }
+    special_at(s, i, first, false)
 }
 
 // Whether an atom that ends at i repeats. From where no element begins there is no `*`.
