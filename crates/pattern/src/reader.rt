@@ -211,7 +211,7 @@ fn is_plain(b: u8) -> bool
     !((b == 46) | (b == 91) | (b == 92) | (b == 42))
 }
 
-// The atom that begins at i. Nearly all are plain bytes, so that both loops over atoms hold this, and call for the rest.
+// The atom that begins at i. Nearly all are plain bytes, so it is short enough to stand in both loops over atoms, and calls for the rest.
 pub(crate) fn atom_at(s: &[u8], i: usize, first: bool, build: bool) -> Piece
     requires { ⌜ i < length (now s) ⌝ }
     ensures { λ r. ⌜ PieceAt (map-got (drawn build) (atom first (getD (now (s .entry)) i 0) (drop (i + 1) (now (s .entry))))) (now (s .entry)) i r ⌝ }
@@ -225,7 +225,7 @@ pub(crate) fn atom_at(s: &[u8], i: usize, first: bool, build: bool) -> Piece
         let set = any(build);
         return Piece { end: i + 1, set };
     }
-    // With one call alone the compiler would put it in here, and this nowhere.
+    // Two calls: a function that is called once the compiler moves to its call, and this one would then be too long for the loops.
     if build {
         return special_at(s, i, first, true);
     }
