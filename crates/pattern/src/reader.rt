@@ -243,7 +243,7 @@ pub(crate) fn star_at(s: &[u8], i: usize, stop: usize) -> bool
     false
 }
 
-// Behind an atom that ends at `end`, and its `*`.
+// Behind an atom that ends at `end` and its `*`, or behind a list's `[` and its `^`.
 pub(crate) fn behind(end: usize, repeats: bool) -> usize
     requires { ⌜ end < 9223372036854775808 ⌝ }
     ensures { λ r. ⌜ r ≡ pick repeats (end + 1) end ⌝ }
