@@ -106,8 +106,8 @@ static inline int is_pattern(const uint8_t *s, size_t n) {
 /* Whether the string is a pattern; if so, its machine. */
 static inline int prepare(struct machine *m, const uint8_t *s, size_t n, int on_names) {
     if (n == 0) return 0;
-    int left = s[0] == '^', free = 1, at = 0;
-    uint64_t run = 0, lead = 0;
+    int left = s[0] == '^', at = 0;
+    uint64_t run = 0, lead = 1;
     size_t i = left ? 1 : 0, stop = stop_at(s, n);
     for (; i < stop; at++) {
         if (at == POSITIONS) return 0;
@@ -116,14 +116,17 @@ static inline int prepare(struct machine *m, const uint8_t *s, size_t n, int on_
         i = element_at(s, n, i, at == 0, set);
         if (i == 0) return 0;
         if (on_names) fold_letters(set);
-        int repeats = peek(s, n, i) == '*';
-        if (repeats) i++;
-        m->before[at] = repeats ? run | here : run;
-        if (free) lead |= here;
-        run = repeats ? run | here : here;
-        free &= repeats;
+        if (peek(s, n, i) == '*') {
+            m->before[at] = run |= here;
+            lead |= (lead & here) << 1;
+            i++;
+        } else {
+            m->before[at] = run;
+            run = here;
+        }
     }
-    int right = i < n;
+    int right = i < n, free = lead >> at & 1;
+    lead &= ~((uint64_t)1 << at);
     m->start = lead, m->inner = left ? 0 : lead;
     m->ends = run, m->stops = right ? 0 : run;
     m->whole = free, m->head = free && !right, m->tail = free && !left, m->middle = free && !left && !right;

@@ -360,14 +360,16 @@ mask-or w f g =
     mask-of w (bitOr (mask w f) (mask w g)) (λ k. f k || g k) (or-lt w (mask w f) (mask w g) (mask-lt w f) (mask-lt w g))
     (λ k h. bit-or (mask w f) (mask w g) k ∙ ap₂ (λ (x y : Bool). x || y) (mask-bit w f k h) (mask-bit w g k h))
 
+-- the bits below w
+pub bit-cut : (n w k : ℕ) → bit (n % 2 ^ w) k ≡ (bit n k && ltb k w)
+bit-cut n w k = ap (λ (x : ℕ). bit x k) (sym (and-mask n w)) ∙ bit-and n (2 ^ w - 1) k ∙ ap (λ (x : Bool). bit n k && x) (bit-ones w k)
+
 -- the bits from s on, as code makes them: `ALL << s`
 pub ones-up : (w s : ℕ) → (2 ^ w - 1) * 2 ^ s % 2 ^ w ≡ mask w (leb s)
 ones-up w s = mask-of w ((2 ^ w - 1) * 2 ^ s % 2 ^ w) (leb s) (mod-lt ((2 ^ w - 1) * 2 ^ s) (pow-pos w)) (λ k h. at k h (leb s k) refl)
   where
     cut : (n k : ℕ) → k < w → bit (n % 2 ^ w) k ≡ bit n k
-    cut n k h =
-        ap (λ (x : ℕ). bit x k) (sym (and-mask n w)) ∙ bit-and n (2 ^ w - 1) k ∙ ap (λ (x : Bool). bit n k && x) (bit-ones w k ∙ lt-ltb k w h)
-        ∙ and-true (bit n k)
+    cut n k h = bit-cut n w k ∙ ap (λ (x : Bool). bit n k && x) (lt-ltb k w h) ∙ and-true (bit n k)
 
     at : (k : ℕ) → k < w → (t : Bool) → leb s k ≡ t → bit ((2 ^ w - 1) * 2 ^ s % 2 ^ w) k ≡ t
     at k h true e =

@@ -3,7 +3,6 @@ use mathlib.Core.Path.{_≡_, refl, sym, ap, _∙_, subst}
 use mathlib.Core.Bool.{Bool, true, false, not, _&&_, _||_, and-true, and-false, and-comm, and-assoc, or-true, or-false}
 use mathlib.Core.List.{List, [], _∷_, _++_}
 use Prim.Native.Nat.{ℕ, zero, suc, _<_, _≤_}
-use native.Mathlib.Nat.{zero-add}
 use native.Mathlib.Omega.{arith}
 use lib.Dec.{ltb}
 use lib.ListN.{length, getD, List·getD-append}
@@ -16,10 +15,10 @@ use Rattle.machine.specs.declared.Shape.{Shape}
 use Rattle.machine.proofs.Agreeing.{Agree}
 use Rattle.pattern.specs.Answers.{meet-as}
 use Rattle.pattern.specs.Pattern.{Atom, Elem, meets}
-use Rattle.pattern.specs.Prepared.{atom-of, no-marks, marks, set-as, sets-of, befores, shape-by}
+use Rattle.pattern.specs.Prepared.{atom-of, no-marks, may-lead, marks, set-as, sets-of, befores, shape-by}
 use Rattle.pattern.specs.declared.edition1.Marks.{Marks}
 use Rattle.pattern.proofs.Compiled.{met-at, compiled}
-use Rattle.pattern.proofs.Positions.{free, leads, ends, follows, frees, ends-bit, leads-bit, follows-bit, follows-past, at-bit, befores-length}
+use Rattle.pattern.proofs.Positions.{leads, ends, follows, size-is, free-bit, ends-bit, leads-bit, follows-bit, follows-past, befores-length}
 use Rattle.pattern.proofs.Words.{in-words}
 
 -- ---- a set on a byte
@@ -36,12 +35,6 @@ module _ (fold left right : Bool) (es : List Elem) (old-sets : List (List ℕ)) 
 
   abbrev h : Shape
   h = shape-by (marks no-marks es) left right
-
-  size-is : all .at ≡ length es
-  size-is = at-bit no-marks es ∙ zero-add (length es)
-
-  free-is : all .free ≡ free es
-  free-is = frees no-marks es
 
   first-is : (l a : Bool) (q : ℕ) → bit (first-mask (shape-by (marks no-marks es) l right) a) q ≡ ((not l || a) && leads es q)
   first-is true true q = leads-bit es q
@@ -62,7 +55,7 @@ module _ (fold left right : Bool) (es : List Elem) (old-sets : List (List ℕ)) 
   null-by f l r false false = rw (or-false (not l), or-false (not r)) (ap (λ (t : Bool). t && not r) (and-comm f (not l)) ∙ and-assoc (not l) f (not r))
 
   follow-is : (p q : ℕ) → (ltb q (all .at) && bit (getD (befores no-marks es ++ old-before) q 0) p) ≡ follows es p q
-  follow-is p q = ap (λ (n : ℕ). ltb q n && bit (getD (befores no-marks es ++ old-before) q 0) p) size-is ∙ go (ltb q (length es)) refl
+  follow-is p q = ap (λ (n : ℕ). ltb q n && bit (getD (befores no-marks es ++ old-before) q 0) p) (size-is es) ∙ go (ltb q (length es)) refl
     where
       go : (t : Bool) → ltb q (length es) ≡ t → (t && bit (getD (befores no-marks es ++ old-before) q 0) p) ≡ follows es p q
       go true t =
@@ -84,7 +77,7 @@ module _ (fold left right : Bool) (es : List Elem) (old-sets : List (List ℕ)) 
   meets-is : (p b : ℕ) → b < 256 → met (all .at) (sets-of fold es ++ old-sets) b p ≡ met-at (meet-as fold) es p b
   unfolding met
   meets-is p b l =
-      ap (λ (n : ℕ). ltb p n && in-set (getD (sets-of fold es ++ old-sets) p []) b) size-is
+      ap (λ (n : ℕ). ltb p n && in-set (getD (sets-of fold es ++ old-sets) p []) b) (size-is es)
       ∙ go (ltb p (length es)) refl
     where
       go : (t : Bool) → ltb p (length es) ≡ t
@@ -99,5 +92,5 @@ module _ (fold left right : Bool) (es : List Elem) (old-sets : List (List ℕ)) 
     last = last-is right;
     follow = follow-is;
     meets = meets-is;
-    null = λ a e. null-by (all .free) left right a e ∙ ap (λ (t : Bool). (not left || a) && (t && (not right || e))) free-is;
+    null = λ a e. null-by (may-lead all) left right a e ∙ ap (λ (t : Bool). (not left || a) && (t && (not right || e))) (free-bit es);
   }

@@ -3,7 +3,7 @@ use mathlib.Core.Path.{_≡_, refl, sym, ap, ap₂, _∙_, subst⁻¹}
 use mathlib.Core.Bool.{Bool, true, false, not, _&&_, true≢false}
 use mathlib.Core.Option.{Option, none, some}
 use mathlib.Core.List.{List, [], _∷_, _++_}
-use Prim.Native.Nat.{ℕ, suc, _+_, _<_, _≤_}
+use Prim.Native.Nat.{ℕ, suc, _+_, _*_, _%_, _^_, _<_, _≤_}
 use native.Mathlib.Nat.{zero-add}
 use native.Mathlib.Omega.{arith}
 use lib.Dec.{eqb, leb, ltb}
@@ -12,11 +12,12 @@ use lib.Seq.{sets, sets-eq, length-sets}
 use borrow.Author.Tests.{leb-true, not-true, not-false}
 use Rattle.octets.specs.Lists.{pick, peek}
 use Rattle.octets.specs.Option.{_>>=_, holds}
+use Rattle.octets.proofs.Bits.{shl-one}
 use Rattle.machine.specs.declared.Shape.{Shape}
 use Rattle.pattern.specs.Answers.{was-read, is-pattern}
 use Rattle.pattern.specs.Pattern.{Atom, Elem, Pattern}
 use Rattle.pattern.specs.Places.{map-got, body-of, start-of, stop-of, PieceAt}
-use Rattle.pattern.specs.Prepared.{starred, no-marks, mark, marks, sets-of, befores, sets-after, befores-after, marks-of, ends-anchored, shape-by, no-shape, shape-of, read-front, FilledFor, Prepared, Ready}
+use Rattle.pattern.specs.Prepared.{starred, no-marks, may-lead, mark, marks, sets-of, befores, sets-after, befores-after, marks-of, ends-anchored, shape-by, no-shape, shape-of, read-front, FilledFor, Prepared, Ready}
 use Rattle.pattern.specs.Reading.{atom, elem, Body, read-pattern}
 use Rattle.pattern.specs.Drawn.{drawn}
 use Rattle.pattern.specs.declared.edition1.Marks.{Marks}
@@ -154,32 +155,22 @@ module _ (s : List ℕ) (w : Whole s) (i : ℕ) (first : Bool) (m : Marks) (f : 
 
 -- ---- the whole
 
-pub shape-is : (m : Marks) (left right : Bool) (inner stops : ℕ) → inner ≡ pick left 0 (m .lead) → stops ≡ pick right 0 (m .run)
+pub shape-is : (m : Marks) (left right : Bool) (start inner stops : ℕ) (free : Bool) → m .at ≤ 60 → start ≡ m .lead % (1 * 2 ^ m .at % 2 ^ 64) → free ≡ may-lead m
+    → inner ≡ pick left 0 start → stops ≡ pick right 0 (m .run)
     → _≡_ {A = Shape}
     (record {
       size = m .at;
-      start = m .lead;
+      start = start;
       inner = inner;
       ends = m .run;
       stops = stops;
-      whole = m .free;
-      head = m .free && not right;
-      tail = m .free && not left;
-      middle = m .free && not left && not right;
+      whole = free;
+      head = free && not right;
+      tail = free && not left;
+      middle = free && not left && not right;
     })
     (shape-by m left right)
-shape-is m left right inner stops e q =
-    ap₂ (λ (x y : ℕ). record {
-      size = m .at;
-      start = m .lead;
-      inner = x;
-      ends = m .run;
-      stops = y;
-      whole = m .free;
-      head = m .free && not right;
-      tail = m .free && not left;
-      middle = m .free && not left && not right;
-    }) e q
+shape-is m left right start inner stops free h a f i s = rw (i, a, shl-one 64 (m .at) (omega arith), f, s) refl
 
 pub accepted : (s : List ℕ) (t : Bool) → t ≡ is-pattern s → not t ≡ false → is-pattern s ≡ true
 accepted s t e n = sym e ∙ not-false t n

@@ -13,13 +13,13 @@ use Rattle.machine.specs.declared.Shape.{Shape}
 use Rattle.pattern.specs.Answers.{was-read, is-pattern}
 use Rattle.pattern.specs.Pattern.{Atom, Elem, Pattern}
 use Rattle.pattern.specs.Places.{map-got, start-of, stop-of, PieceAt}
-use Rattle.pattern.specs.Prepared.{no-marks, mark, marks, before-at, set-as, shape-by, no-shape, takes-part, shape-of, FilledFor, Loaded}
+use Rattle.pattern.specs.Prepared.{no-marks, may-lead, mark, marks, before-at, set-as, shape-by, no-shape, takes-part, shape-of, FilledFor, Loaded}
 use Rattle.pattern.specs.Reading.{atom, read-pattern}
 use Rattle.pattern.specs.Drawn.{drawn}
 use Rattle.pattern.specs.declared.edition1.Marks.{Marks}
 use Rattle.pattern.specs.declared.reader.Piece.{Piece}
 use Rattle.pattern.proofs.Elements.{repeats-at, behind-of, anchor-at, stop-inside, stop-before, Counted, count-empty, count-start, count-lost, count-more, count-full, count-done}
-use Rattle.pattern.proofs.Positions.{at-bit}
+use Rattle.pattern.proofs.Positions.{at-bit, free-bit}
 use Rattle.pattern.proofs.Front.{Stands, Storing, stands-empty, stands-stop, stands-lost, stands-many, store-start, store-more}
 use Rattle.pattern.proofs.Filling.{Fills, fill-start, fill-stop, fill-more, prepare-refused, prepare-on, prepared-ready}
 
@@ -131,9 +131,9 @@ pub shape-tells : (h : Shape) (p : List ℕ) (r : Bool) → r ≡ takes-part h �
 unfolding is-pattern
 shape-tells h p r t e = t ∙ ap takes-part e ∙ go (read-pattern p)
   where
-    told : (es : List Elem) → (not (eqb (marks no-marks es .at) 0) || marks no-marks es .free) ≡ true
-    told [] = refl
-    told (x ∷ es) = ap (λ (b : Bool). not b || marks no-marks (x ∷ es) .free) (ne-eqb (marks no-marks (x ∷ es) .at) 0 (λ z. absurd (omega (arith, at-bit no-marks (x ∷ es), z))))
+    told : (es : List Elem) → (not (eqb (marks no-marks es .at) 0) || may-lead (marks no-marks es)) ≡ true
+    told [] = free-bit []
+    told (x ∷ es) = ap (λ (b : Bool). not b || may-lead (marks no-marks (x ∷ es))) (ne-eqb (marks no-marks (x ∷ es) .at) 0 (λ z. absurd (omega (arith, at-bit no-marks (x ∷ es), z))))
 
     go : (o : Option Pattern) → takes-part (shape-of o) ≡ was-read o
     go none = refl

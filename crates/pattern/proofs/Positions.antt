@@ -1,18 +1,19 @@
 -- The positions of a pattern's elements: which may come first, last, and right after one another, and the masks that say so.
 use mathlib.Core.Path.{_≡_, refl, sym, ap, ap₂, _∙_}
-use mathlib.Core.Bool.{Bool, true, false, _&&_, _||_, or-true, or-false, and-true, and-false, and-assoc}
+use mathlib.Core.Bool.{Bool, true, false, _&&_, _||_, or-true, or-false, and-true, and-false, and-assoc, and-comm}
 use mathlib.Core.List.{List, [], _∷_}
-use Prim.Native.Nat.{ℕ, zero, suc, _+_, _^_, _<_, _≤_}
+use Prim.Native.Nat.{ℕ, zero, suc, _+_, _%_, _^_, _<_, _≤_}
 use native.Mathlib.Nat.{add-zero, zero-add}
 use native.Mathlib.Omega.{arith}
 use lib.Bits.{bitOr}
+use lib.Dec.{ltb}
 use lib.ListN.{length, getD}
-use borrow.Author.Tests.{eq-eqb, ne-eqb}
+use borrow.Author.Tests.{eq-eqb, ne-eqb, ltb-true, ltb-false}
 use Rattle.octets.specs.Bits.{bit}
 use Rattle.octets.specs.Lists.{pick}
-use Rattle.octets.proofs.Bits.{bit-zero, bit-pow, bit-add}
+use Rattle.octets.proofs.Bits.{bit-zero, bit-pow, bit-add, bit-cut}
 use Rattle.pattern.specs.Pattern.{Elem}
-use Rattle.pattern.specs.Prepared.{starred, no-marks, mark, before-at, marks, befores}
+use Rattle.pattern.specs.Prepared.{starred, no-marks, may-lead, mark, before-at, marks, befores}
 use Rattle.pattern.specs.declared.edition1.Marks.{Marks}
 
 -- every element may be left out
@@ -25,6 +26,13 @@ abbrev pub leads : List Elem → ℕ → Bool
 leads [] q = false
 leads (e ∷ es) zero = true
 leads (e ∷ es) (suc q) = starred e && leads es q
+
+-- the same with the place behind all elements, where they may all be left out
+abbrev opens : List Elem → ℕ → Bool
+opens [] zero = true
+opens [] (suc q) = false
+opens (e ∷ es) zero = true
+opens (e ∷ es) (suc q) = starred e && opens es q
 
 -- p may come last
 abbrev pub ends : List Elem → ℕ → Bool
@@ -41,9 +49,9 @@ follows (e ∷ es) (suc p) zero = false
 follows (e ∷ es) (suc p) (suc q) = follows es p q
 
 -- `mark`, as code makes it
-pub mark-is : (m : Marks) (t : Bool) (run lead : ℕ) → run ≡ pick t (bitOr (m .run) (2 ^ m .at)) (2 ^ m .at) → lead ≡ pick (m .free) (bitOr (m .lead) (2 ^ m .at)) (m .lead)
-    → _≡_ {A = Marks} (record { at = m .at + 1; run = run; lead = lead; free = m .free && t }) (mark m t)
-mark-is m t run lead e q = ap₂ (λ (x y : ℕ). record { at = m .at + 1; run = x; lead = y; free = m .free && t }) e q
+pub mark-is : (m : Marks) (t : Bool) (run lead : ℕ) → run ≡ pick t (bitOr (m .run) (2 ^ m .at)) (2 ^ m .at)
+    → lead ≡ pick (t && may-lead m) (bitOr (m .lead) (2 ^ (m .at + 1))) (m .lead) → _≡_ {A = Marks} (record { at = m .at + 1; run = run; lead = lead }) (mark m t)
+mark-is m t run lead e q = ap₂ (λ (x y : ℕ). record { at = m .at + 1; run = x; lead = y }) e q
 
 -- no bit from `at` on
 record Low (at n : ℕ) : Type 0 where
@@ -51,10 +59,10 @@ record Low (at n : ℕ) : Type 0 where
 
 -- ---- the masks with one position more
 
-module _ (at n : ℕ) (l : Low at n) where
-  up : (p : ℕ) → at + suc p ≡ at + 1 + p
-  up p = omega arith
+up : (at p : ℕ) → at + suc p ≡ at + 1 + p
+up at p = omega arith
 
+module _ (at n : ℕ) (l : Low at n) where
   with-below : (k : ℕ) → k < at → bit (bitOr n (2 ^ at)) k ≡ bit n k
   with-below k h = bit-add n at k ∙ ap (λ (t : Bool). bit n k || t) (ne-eqb k at (λ z. omega arith)) ∙ or-false (bit n k)
 
@@ -73,7 +81,7 @@ module _ (at n : ℕ) (l : Low at n) where
 pow-low : (at : ℕ) → Low (at + 1) (2 ^ at)
 pow-low at = record { low = λ k h. bit-pow at k ∙ ne-eqb k at (λ z. omega arith) }
 
--- the run and the lead of `mark`
+-- the run of `mark`, and what may come before
 module _ (at run : ℕ) (l : Low at run) where
   run-low : (t : Bool) → Low (at + 1) (pick t (bitOr run (2 ^ at)) (2 ^ at))
   run-low true = with-low at run l
@@ -87,17 +95,17 @@ module _ (at run : ℕ) (l : Low at run) where
   run-at true = with-at at run l
   run-at false = bit-pow at at ∙ eq-eqb at at refl
 
-  lead-low : (t : Bool) → Low (at + 1) (pick t (bitOr run (2 ^ at)) run)
-  lead-low true = with-low at run l
-  lead-low false = same-low at run l
+  before-low : (t : Bool) → Low (at + 1) (pick t (bitOr run (2 ^ at)) run)
+  before-low true = with-low at run l
+  before-low false = same-low at run l
 
-  lead-below : (t : Bool) (k : ℕ) → k < at → bit (pick t (bitOr run (2 ^ at)) run) k ≡ bit run k
-  lead-below true k h = with-below at run l k h
-  lead-below false k h = refl
+  before-below : (t : Bool) (k : ℕ) → k < at → bit (pick t (bitOr run (2 ^ at)) run) k ≡ bit run k
+  before-below true k h = with-below at run l k h
+  before-below false k h = refl
 
-  lead-at : (t : Bool) → bit (pick t (bitOr run (2 ^ at)) run) at ≡ t
-  lead-at true = with-at at run l
-  lead-at false = l .low at (omega arith)
+  before-is : (t : Bool) → bit (pick t (bitOr run (2 ^ at)) run) at ≡ t
+  before-is true = with-at at run l
+  before-is false = l .low at (omega arith)
 
 -- ---- the masks of the elements from `at` on
 
@@ -107,7 +115,7 @@ module _ (m : Marks) where
   Run es = ((k : ℕ) → k < m .at → bit (marks m es .run) k ≡ (bit (m .run) k && free es)) × ((p : ℕ) → bit (marks m es .run) (m .at + p) ≡ ends es p)
 
   abbrev Lead : List Elem → Type 0
-  Lead es = ((k : ℕ) → k < m .at → bit (marks m es .lead) k ≡ bit (m .lead) k) × ((p : ℕ) → bit (marks m es .lead) (m .at + p) ≡ (m .free && leads es p))
+  Lead es = ((k : ℕ) → k < m .at → bit (marks m es .lead) k ≡ bit (m .lead) k) × ((p : ℕ) → bit (marks m es .lead) (m .at + p) ≡ (may-lead m && opens es p))
 
   abbrev Before : List Elem → ℕ → Type 0
   Before es q =
@@ -127,32 +135,36 @@ runs m (e ∷ es) l =
         → ((p : ℕ) → bit (marks m (e ∷ es) .run) (m .at + 1 + p) ≡ ends es p) → (p : ℕ) → bit (marks m (e ∷ es) .run) (m .at + p) ≡ ends (e ∷ es) p
     go low high zero =
         ap (bit (marks m (e ∷ es) .run)) (add-zero (m .at)) ∙ low (m .at) (omega arith) ∙ ap (λ (t : Bool). t && free es) (run-at (m .at) (m .run) l (starred e))
-    go low high (suc p) = ap (bit (marks m (e ∷ es) .run)) (up (m .at) (m .run) l p) ∙ high p
+    go low high (suc p) = ap (bit (marks m (e ∷ es) .run)) (up (m .at) p) ∙ high p
 
-leading : (m : Marks) (es : List Elem) → Low (m .at) (m .lead) → Lead m es
-leading m [] l = (λ k h. refl, λ p. l .low (m .at + p) (omega arith) ∙ sym (and-false (m .free)))
+leading : (m : Marks) (es : List Elem) → Low (m .at + 1) (m .lead) → Lead m es
+leading m [] l = (λ k h. refl, go)
+  where
+    go : (p : ℕ) → bit (m .lead) (m .at + p) ≡ (may-lead m && opens [] p)
+    go zero = ap (bit (m .lead)) (add-zero (m .at)) ∙ sym (and-true (may-lead m))
+    go (suc p) = l .low (m .at + suc p) (omega arith) ∙ sym (and-false (may-lead m))
 leading m (e ∷ es) l =
-    let ih = leading (mark m (starred e)) es (lead-low (m .at) (m .lead) l (m .free)) in
-    (λ k h. ih .0 k (omega arith) ∙ lead-below (m .at) (m .lead) l (m .free) k h, λ p. go (ih .0) (ih .1) p)
+    let ih = leading (mark m (starred e)) es (before-low (m .at + 1) (m .lead) l (starred e && may-lead m)) in
+    (λ k h. ih .0 k (omega arith) ∙ before-below (m .at + 1) (m .lead) l (starred e && may-lead m) k (omega arith), λ p. go (ih .0) (ih .1) p)
   where
     go : ((k : ℕ) → k < m .at + 1 → bit (marks m (e ∷ es) .lead) k ≡ bit (mark m (starred e) .lead) k)
-        → ((p : ℕ) → bit (marks m (e ∷ es) .lead) (m .at + 1 + p) ≡ (m .free && starred e && leads es p)) → (p : ℕ)
-        → bit (marks m (e ∷ es) .lead) (m .at + p) ≡ (m .free && leads (e ∷ es) p)
+        → ((p : ℕ) → bit (marks m (e ∷ es) .lead) (m .at + 1 + p) ≡ (may-lead (mark m (starred e)) && opens es p)) → (p : ℕ)
+        → bit (marks m (e ∷ es) .lead) (m .at + p) ≡ (may-lead m && opens (e ∷ es) p)
     go low high zero =
-        ap (bit (marks m (e ∷ es) .lead)) (add-zero (m .at)) ∙ low (m .at) (omega arith) ∙ lead-at (m .at) (m .lead) l (m .free) ∙ sym (and-true (m .free))
-    go low high (suc p) = ap (bit (marks m (e ∷ es) .lead)) (up (m .at) (m .lead) l p) ∙ high p ∙ and-assoc (m .free) (starred e) (leads es p)
-
-pub frees : (m : Marks) (es : List Elem) → marks m es .free ≡ (m .free && free es)
-frees m [] = sym (and-true (m .free))
-frees m (e ∷ es) = frees (mark m (starred e)) es ∙ and-assoc (m .free) (starred e) (free es)
+        ap (bit (marks m (e ∷ es) .lead)) (add-zero (m .at)) ∙ low (m .at) (omega arith)
+        ∙ before-below (m .at + 1) (m .lead) l (starred e && may-lead m) (m .at) (omega arith) ∙ sym (and-true (may-lead m))
+    go low high (suc p) =
+        ap (bit (marks m (e ∷ es) .lead)) (up (m .at) p) ∙ high p
+        ∙ ap (λ (t : Bool). t && opens es p) (before-is (m .at + 1) (m .lead) l (starred e && may-lead m) ∙ and-comm (starred e) (may-lead m))
+        ∙ and-assoc (may-lead m) (starred e) (opens es p)
 
 before-all : (m : Marks) (es : List Elem) (q : ℕ) → q < length es → Low (m .at) (m .run) → Before m es q
 before-all m [] q h l = absurd (omega arith)
-before-all m (e ∷ es) zero h l = (λ k g. lead-below (m .at) (m .run) l (starred e) k g ∙ sym (and-true (bit (m .run) k)), go)
+before-all m (e ∷ es) zero h l = (λ k g. before-below (m .at) (m .run) l (starred e) k g ∙ sym (and-true (bit (m .run) k)), go)
   where
     go : (p : ℕ) → bit (before-at m (starred e)) (m .at + p) ≡ follows (e ∷ es) p zero
-    go zero = ap (bit (before-at m (starred e))) (add-zero (m .at)) ∙ lead-at (m .at) (m .run) l (starred e)
-    go (suc p) = lead-low (m .at) (m .run) l (starred e) .low (m .at + suc p) (omega arith)
+    go zero = ap (bit (before-at m (starred e))) (add-zero (m .at)) ∙ before-is (m .at) (m .run) l (starred e)
+    go (suc p) = before-low (m .at) (m .run) l (starred e) .low (m .at + suc p) (omega arith)
 before-all m (e ∷ es) (suc q) h l =
     let ih = before-all (mark m (starred e)) es q (omega arith) (run-low (m .at) (m .run) l (starred e)) in (
       λ k g.
@@ -166,7 +178,7 @@ before-all m (e ∷ es) (suc q) h l =
     go low high zero =
         ap (bit (getD (befores (mark m (starred e)) es) q 0)) (add-zero (m .at)) ∙ low (m .at) (omega arith)
         ∙ ap (λ (t : Bool). t && leads es q) (run-at (m .at) (m .run) l (starred e))
-    go low high (suc p) = ap (bit (getD (befores (mark m (starred e)) es) q 0)) (up (m .at) (m .run) l p) ∙ high p
+    go low high (suc p) = ap (bit (getD (befores (mark m (starred e)) es) q 0)) (up (m .at) p) ∙ high p
 
 -- ---- all elements
 
@@ -176,15 +188,47 @@ zero-low = record { low = λ k h. bit-zero k }
 pub ends-bit : (es : List Elem) (p : ℕ) → bit (marks no-marks es .run) p ≡ ends es p
 ends-bit es p = ap (bit (marks no-marks es .run)) (sym (zero-add p)) ∙ runs no-marks es zero-low .1 p
 
-pub leads-bit : (es : List Elem) (p : ℕ) → bit (marks no-marks es .lead) p ≡ leads es p
-leads-bit es p = ap (bit (marks no-marks es .lead)) (sym (zero-add p)) ∙ leading no-marks es zero-low .1 p
-
 pub follows-bit : (es : List Elem) (p q : ℕ) → q < length es → bit (getD (befores no-marks es) q 0) p ≡ follows es p q
 follows-bit es p q h = ap (bit (getD (befores no-marks es) q 0)) (sym (zero-add p)) ∙ before-all no-marks es q h zero-low .1 p
 
 pub at-bit : (m : Marks) (es : List Elem) → marks m es .at ≡ m .at + length es
 at-bit m [] = sym (add-zero (m .at))
 at-bit m (e ∷ es) = let z : m .at + 1 + length es ≡ m .at + suc (length es) = omega arith in at-bit (mark m (starred e)) es ∙ z
+
+-- what may come first, and the place behind all elements among them
+opens-bit : (es : List Elem) (p : ℕ) → bit (marks no-marks es .lead) p ≡ opens es p
+opens-bit es p =
+    ap (bit (marks no-marks es .lead)) (sym (zero-add p)) ∙ leading no-marks es (pow-low 0) .1 p ∙ ap (λ (t : Bool). t && opens es p) (bit-pow 0 0)
+
+-- the machine's size
+pub size-is : (es : List Elem) → marks no-marks es .at ≡ length es
+size-is es = at-bit no-marks es ∙ zero-add (length es)
+
+leads-past : (es : List Elem) (q : ℕ) → length es ≤ q → leads es q ≡ false
+leads-past [] q h = refl
+leads-past (e ∷ es) zero h = absurd (omega arith)
+leads-past (e ∷ es) (suc q) h = ap (λ (t : Bool). starred e && t) (leads-past es q (omega arith)) ∙ and-false (starred e)
+
+pub leads-bit : (es : List Elem) (p : ℕ) → bit (marks no-marks es .lead % 2 ^ marks no-marks es .at) p ≡ leads es p
+leads-bit es p =
+    bit-cut (marks no-marks es .lead) (marks no-marks es .at) p ∙ ap₂ (λ (t : Bool) (n : ℕ). t && ltb p n) (opens-bit es p) (size-is es)
+    ∙ go (ltb p (length es)) refl
+  where
+    inside : (es : List Elem) (p : ℕ) → p < length es → opens es p ≡ leads es p
+    inside [] p h = absurd (omega arith)
+    inside (e ∷ es) zero h = refl
+    inside (e ∷ es) (suc p) h = ap (λ (t : Bool). starred e && t) (inside es p (omega arith))
+
+    go : (t : Bool) → ltb p (length es) ≡ t → (opens es p && t) ≡ leads es p
+    go true t = and-true (opens es p) ∙ inside es p (ltb-true p (length es) t)
+    go false t = and-false (opens es p) ∙ sym (leads-past es p (ltb-false p (length es) t))
+
+pub free-bit : (es : List Elem) → may-lead (marks no-marks es) ≡ free es
+free-bit es = opens-bit es (marks no-marks es .at) ∙ ap (opens es) (size-is es) ∙ behind es
+  where
+    behind : (es : List Elem) → opens es (length es) ≡ free es
+    behind [] = refl
+    behind (e ∷ es) = ap (λ (t : Bool). starred e && t) (behind es)
 
 pub befores-length : (m : Marks) (es : List Elem) → length (befores m es) ≡ length es
 befores-length m [] = refl
@@ -194,9 +238,4 @@ pub follows-past : (es : List Elem) (p q : ℕ) → length es ≤ q → follows 
 follows-past [] p q h = refl
 follows-past (e ∷ es) p zero h = absurd (omega arith)
 follows-past (e ∷ es) zero (suc q) h = leads-past es q (omega arith)
-  where
-    leads-past : (es : List Elem) (q : ℕ) → length es ≤ q → leads es q ≡ false
-    leads-past [] q h = refl
-    leads-past (e ∷ es) zero h = absurd (omega arith)
-    leads-past (e ∷ es) (suc q) h = ap (λ (t : Bool). starred e && t) (leads-past es q (omega arith)) ∙ and-false (starred e)
 follows-past (e ∷ es) (suc p) (suc q) h = follows-past es p q (omega arith)

@@ -3,11 +3,12 @@ use mathlib.Core.Path.{_≡_}
 use mathlib.Core.Bool.{Bool, true, false, not, _&&_, _||_}
 use mathlib.Core.Option.{Option, none, some}
 use mathlib.Core.List.{List, [], _∷_, _++_}
-use Prim.Native.Nat.{ℕ, _+_, _^_}
+use Prim.Native.Nat.{ℕ, _+_, _%_, _^_}
 use lib.Bits.{bitOr}
 use lib.Dec.{eqb}
 use lib.ListN.{length, drop}
 use lib.Seq.{sets as in-turn}
+use Rattle.octets.specs.Bits.{bit}
 use Rattle.octets.specs.Lists.{pick}
 use Rattle.machine.specs.declared.Shape.{Shape}
 use Rattle.pattern.specs.Pattern.{Atom, Elem, once, star, Pattern}
@@ -29,18 +30,21 @@ atom-of (star a) = a
 
 -- ---- masks, one element after the other
 
--- Of the elements before the position `at`: `run` are those that may come right before it, `lead` those that may come first, and
--- `free` says that all may be left out.
+-- Of the elements before the position `at`: `run` are those that may come right before it; `lead` are those that may come first, and
+-- `at` is among them where all before it may be left out.
 abbrev pub no-marks : Marks
-no-marks = record { at = 0; run = 0; lead = 0; free = true }
+no-marks = record { at = 0; run = 0; lead = 1 }
+
+-- whether all elements before this position may be left out
+abbrev pub may-lead : Marks → Bool
+may-lead m = bit (m .lead) (m .at)
 
 -- one element more
 abbrev pub mark : Marks → Bool → Marks
 mark m repeats = record {
   at = m .at + 1;
   run = pick repeats (bitOr (m .run) (2 ^ m .at)) (2 ^ m .at);
-  lead = pick (m .free) (bitOr (m .lead) (2 ^ m .at)) (m .lead);
-  free = m .free && repeats;
+  lead = pick (repeats && may-lead m) (bitOr (m .lead) (2 ^ (m .at + 1))) (m .lead);
 }
 
 -- what may come right before that element: one that repeats may follow itself
@@ -73,14 +77,14 @@ befores m (e ∷ es) = before-at m (starred e) ∷ befores (mark m (starred e)) 
 abbrev pub shape-by : Marks → Bool → Bool → Shape
 shape-by m left right = record {
   size = m .at;
-  start = m .lead;
-  inner = pick left 0 (m .lead);
+  start = m .lead % 2 ^ m .at;
+  inner = pick left 0 (m .lead % 2 ^ m .at);
   ends = m .run;
   stops = pick right 0 (m .run);
-  whole = m .free;
-  head = m .free && not right;
-  tail = m .free && not left;
-  middle = m .free && not left && not right;
+  whole = may-lead m;
+  head = may-lead m && not right;
+  tail = may-lead m && not left;
+  middle = may-lead m && not left && not right;
 }
 
 -- no part fits

@@ -1,13 +1,13 @@
 // Patterns of edition 1 as machines: a position for each element.
 ghost use mathlib.Core.Path.{_≡_};
-ghost use mathlib.Core.Bool.{true};
-ghost use Prim.Native.Nat.{_^_, _<_};
+ghost use mathlib.Core.Bool.{true, _&&_};
+ghost use Prim.Native.Nat.{_+_, _^_, _<_, _≤_};
 ghost use lib.Bits.{bitOr};
 ghost use lib.ListN.{length};
 ghost use Rattle.octets.specs.Lists.{pick};
 ghost use Rattle.pattern.specs.Drawn.{drawn};
 ghost use Rattle.pattern.specs.Pattern.{Atom};
-ghost use Rattle.pattern.specs.Prepared.{no-marks, mark as marked, before-at, set-as, shape-by, no-shape, takes-part, Loaded};
+ghost use Rattle.pattern.specs.Prepared.{no-marks, may-lead, mark as marked, before-at, set-as, shape-by, no-shape, takes-part, Loaded};
 use crate::reader::atom_at;
 use crate::reader::peek_at;
 use crate::reader::star_at;
@@ -17,13 +17,12 @@ use crate::sets::folded;
 use crate::sets::unless;
 use machine::Shape;
 
-// Of the elements before the position `at`: those that may come right before it, those that may come first, and whether all may
-// be left out.
+// Of the elements before the position `at`: those that may come right before it, and those that may come first, with `at` among
+// them where all before it may be left out. So an element that does not repeat leaves the second as they are.
 pub struct Marks {
     pub at: usize,
     pub run: u64,
     pub lead: u64,
-    pub free: bool,
 }
 
 fn with_position(m: u64, at: usize) -> u64
@@ -44,6 +43,14 @@ fn before_at(m: Marks, repeats: bool) -> u64
     m.run
 }
 
+// Whether all elements before this position may be left out.
+fn may_lead(m: Marks) -> bool
+    requires { ⌜ m .at < 64 ⌝ }
+    ensures { λ r. ⌜ r ≡ may-lead m ⌝ }
+{
+    m.lead >> m.at & 1 == 1
+}
+
 // The run and the lead with this element.
 fn run_with(m: Marks, repeats: bool) -> u64
     requires { ⌜ m .at < 64 ⌝ }
@@ -55,27 +62,26 @@ fn run_with(m: Marks, repeats: bool) -> u64
     with_position(0, m.at)
 }
 
-fn lead_with(m: Marks) -> u64
-    requires { ⌜ m .at < 64 ⌝ }
-    ensures { λ r. ⌜ r ≡ pick (m .free) (bitOr (m .lead) (2 ^ m .at)) (m .lead) ⌝ }
+fn lead_with(m: Marks, repeats: bool) -> u64
+    requires { ⌜ m .at < 60 ⌝ }
+    ensures { λ r. ⌜ r ≡ pick (repeats && may-lead m) (bitOr (m .lead) (2 ^ (m .at + 1))) (m .lead) ⌝ }
 {
-    if m.free {
-        return with_position(m.lead, m.at);
+    if repeats & may_lead(m) {
+        return with_position(m.lead, m.at + 1);
     }
     m.lead
 }
 
 fn mark(m: Marks, repeats: bool) -> Marks
-    requires { ⌜ m .at < 64 ⌝ }
+    requires { ⌜ m .at < 60 ⌝ }
     ensures { λ r. ⌜ r ≡ marked m repeats ⌝ }
 {
     let run = run_with(m, repeats);
-    let lead = lead_with(m);
+    let lead = lead_with(m, repeats);
     Marks {
         at: m.at + 1,
         run,
         lead,
-        free: m.free & repeats,
     }
 }
 
@@ -91,20 +97,23 @@ fn set_as(fold: bool, set: [u64; 4]) -> [u64; 4]
 
 // The machine of all elements, with the anchors `^` and `$`.
 fn shape_by(m: Marks, left: bool, right: bool) -> Shape
+    requires { ⌜ m .at ≤ 60 ⌝ }
     ensures { λ r. ⌜ r ≡ shape-by m left right ⌝ }
 {
-    let inner = unless(left, m.lead);
+    let start = m.lead % (1 << m.at);
+    let free = may_lead(m);
+    let inner = unless(left, start);
     let stops = unless(right, m.run);
     Shape {
         size: m.at,
-        start: m.lead,
+        start,
         inner,
         ends: m.run,
         stops,
-        whole: m.free,
-        head: m.free & !right,
-        tail: m.free & !left,
-        middle: m.free & !left & !right,
+        whole: free,
+        head: free & !right,
+        tail: free & !left,
+        middle: free & !left & !right,
     }
 }
 
@@ -131,8 +140,7 @@ fn no_marks() -> Marks
     Marks {
         at: 0,
         run: 0,
-        lead: 0,
-        free: true,
+        lead: 1,
     }
 }
 

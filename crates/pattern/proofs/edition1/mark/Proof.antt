@@ -14,8 +14,8 @@ add-t5 c = search needs
 
 returns : tie.Need-returns
 returns c =
-    let a = c .before .before .before .before .args in
-    mark-is (a .m) (a .repeats) _ _ (c .before .before .before .run-with .ensures) (c .before .before .lead-with .ensures)
+    let a = c .before .before .before .args in
+    mark-is (a .m) (a .repeats) _ _ (c .before .before .run-with .ensures) (c .before .lead-with .ensures)
 
 pub mark-spec : {M : Type 1} → statement M
 mark-spec = tie.close (tie.spec run-with-requires lead-with-requires add-t5 returns)

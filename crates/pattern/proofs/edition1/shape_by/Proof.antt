@@ -1,7 +1,18 @@
+use mathlib.Core.Path.{refl}
 use borrow.Author.Needs.{needs}
+use Rattle.machine.proofs.Stepping.{size-bit}
 use Rattle.pattern.proofs.Filling.{shape-is}
 use Rattle.pattern.proofs.edition1.shape_by.Statement.{statement}
 use Rattle.pattern.proofs.edition1.shape_by.Tie as tie
+
+shl-start : tie.Need-shl-start
+shl-start c = search needs
+
+rem-start : tie.Need-rem-start
+rem-start c = search (needs, size-bit)
+
+may-lead-requires : tie.Need-may-lead-requires
+may-lead-requires c κs = search needs
 
 unless-requires : tie.Need-unless-requires
 unless-requires c κs = search needs
@@ -11,8 +22,9 @@ unless-requires-2 c κs = search needs
 
 returns : tie.Need-returns
 returns c =
-    let a = c .before .before .before .before .before .args in
-    shape-is (a .m) (a .left) (a .right) _ _ (c .before .before .before .before .unless .ensures) (c .before .before .before .unless2 .ensures)
+    let l = c .before .before in
+    let a = l .before .before in
+    shape-is (a .args .m) (a .args .left) (a .args .right) _ _ _ _ (a .pre) refl (l .may-lead .ensures) (c .before .unless .ensures) (c .unless2 .ensures)
 
 pub shape-by-spec : {M : Type 1} → statement M
-shape-by-spec = tie.close (tie.spec unless-requires unless-requires-2 returns)
+shape-by-spec = tie.close (tie.spec shl-start rem-start may-lead-requires unless-requires unless-requires-2 returns)
