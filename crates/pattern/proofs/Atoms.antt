@@ -180,9 +180,8 @@ module _ (s : List ℕ) (i : ℕ) (first build : Bool) (h : i < length s) where
     atom-byte set e q = one-byte (byte b) set (ordinary (eqb b 42) refl e) q
 
   -- none of the four: each is told from the byte
-  pub atom-plain : (set : List ℕ) (t : Bool) → t ≡ not (some-of (eqb b) (text ".[\\*")) → t ≡ true → set ≡ drawn build (byte b)
-      → PieceAt whole s i (record { end = i + 1; set = set })
-  atom-plain set t e y q = one-byte (byte b) set (go (eqb b 46) refl (eqb b 91) refl (eqb b 92) refl (eqb b 42) refl (sym e ∙ y)) q
+  pub plain-is : (t : Bool) → t ≡ not (some-of (eqb b) (text ".[\\*")) → t ≡ true → atom first b rest ≡ read (byte b) rest
+  plain-is t e y = go (eqb b 46) refl (eqb b 91) refl (eqb b 92) refl (eqb b 42) refl (sym e ∙ y)
     where
       go : (d : Bool) → eqb b 46 ≡ d → (l : Bool) → eqb b 91 ≡ l → (p : Bool) → eqb b 92 ≡ p → (a : Bool) → eqb b 42 ≡ a
           → not (d || (l || (p || (a || false)))) ≡ true → atom first b rest ≡ read (byte b) rest
@@ -191,6 +190,10 @@ module _ (s : List ℕ) (i : ℕ) (first build : Bool) (h : i < length s) where
       go false e₁ true e₂ p e₃ a e₄ n = absurd (true≢false (sym n))
       go false e₁ false e₂ true e₃ a e₄ n = absurd (true≢false (sym n))
       go false e₁ false e₂ false e₃ true e₄ n = absurd (true≢false (sym n))
+
+  pub atom-plain : (set : List ℕ) (t : Bool) → t ≡ not (some-of (eqb b) (text ".[\\*")) → t ≡ true → set ≡ drawn build (byte b)
+      → PieceAt whole s i (record { end = i + 1; set = set })
+  atom-plain set t e y q = one-byte (byte b) set (plain-is t e y) q
 
   -- whether sets are asked for is known
   pub atom-built : (r : Piece) (t : Bool) → build ≡ t → PieceAt (map-got (drawn t) (atom first b rest)) s i r → PieceAt whole s i r

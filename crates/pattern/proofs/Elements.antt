@@ -19,7 +19,6 @@ use Rattle.pattern.specs.Pattern.{Atom, Elem, Pattern}
 use Rattle.pattern.specs.Places.{map-got, body-of, start-of, stop-of, PieceAt}
 use Rattle.pattern.specs.Prepared.{starred, atom-of}
 use Rattle.pattern.specs.Reading.{Read, atom, elem, Body, read-pattern}
-use Rattle.pattern.specs.Drawn.{drawn}
 use Rattle.pattern.specs.declared.reader.Piece.{Piece}
 use Rattle.pattern.proofs.Atoms.{piece-found, piece-lost, map-none, map-some}
 use Rattle.pattern.proofs.Countdown.{body-next, body-none, body-fuel}
@@ -127,9 +126,9 @@ abbrev pub with-elem : Elem → Option Body → Option Body
 with-elem x o = o >>= (λ more. some (record { parts = x ∷ more .parts; anchored = more .anchored }))
 
 -- the atom at i, and what is left behind it and its `*`
-pub record Step (build : Bool) (s : List ℕ) (i : ℕ) (first : Bool) (end : ℕ) (set : List ℕ) : Type 0 where
+pub record Step (f : Atom → List ℕ) (s : List ℕ) (i : ℕ) (first : Bool) (end : ℕ) (set : List ℕ) : Type 0 where
   pub value : Atom
-  pub drawing : drawn build value ≡ set
+  pub drawing : f value ≡ set
   pub left : body-of first (drop i s)
       ≡ with-elem (elem (repeats-at s end) value) (body-of false (drop (behind-of s end) s))
 
@@ -155,13 +154,14 @@ module _ (s : List ℕ) (i : ℕ) (first : Bool) (h : i < length s) where
   body-last : anchor-at s i ≡ true → body-of first (drop i s) ≡ some (record { parts = []; anchored = true })
   body-last e = here-is true e
 
-  module _ (build : Bool) (r : Piece) (a : PieceAt (map-got (drawn build) (atom first b rest)) s i r) (e : anchor-at s i ≡ false) where
+  -- whatever is kept of an atom
+  module _ (f : Atom → List ℕ) (r : Piece) (a : PieceAt (map-got f (atom first b rest)) s i r) (e : anchor-at s i ≡ false) where
     body-lost : r .end ≡ 0 → body-of first (drop i s) ≡ none
-    body-lost z = here-is false e ∙ ap going (map-none (drawn build) (atom first b rest) (piece-lost a z))
+    body-lost z = here-is false e ∙ ap going (map-none f (atom first b rest) (piece-lost a z))
 
-    pub body-more : (r .end ≡ 0 → ⊥) → Step build s i first (r .end) (r .set)
+    pub body-more : (r .end ≡ 0 → ⊥) → Step f s i first (r .end) (r .set)
     body-more n =
-        let g = map-some (drawn build) (atom first b rest) (r .set) (drop (r .end) s) (piece-found a n) in
+        let g = map-some f (atom first b rest) (r .set) (drop (r .end) s) (piece-found a n) in
         record {
           value = g .value;
           drawing = g .drawing;
@@ -243,27 +243,35 @@ counted-more : (x : Elem) (n : ℕ) (o : Option Body) → counted n (with-elem x
 counted-more x n none = refl
 counted-more x n (some b) = let z : n + suc (length (b .parts)) ≡ n + 1 + length (b .parts) = omega arith in ap (λ (k : ℕ). leb k 60) z
 
--- more than 60 before i
-count-many : (s : List ℕ) (i : ℕ) (first : Bool) (n : ℕ) → Counted s i first n → 60 < n → false ≡ is-pattern s
-count-many s i first n c h = sym (go (body-of first (drop i s))) ∙ c .left
-  where
-    go : (o : Option Body) → counted n o ≡ false
-    go none = refl
-    go (some b) = lt-leb (n + length (b .parts)) 60 (omega arith)
+-- none after more than 60
+counted-past : (n : ℕ) (o : Option Body) → 60 < n → counted n o ≡ false
+counted-past n none h = refl
+counted-past n (some b) h = lt-leb (n + length (b .parts)) 60 (omega arith)
 
 module _ (s : List ℕ) (i : ℕ) (first : Bool) (n : ℕ) (c : Counted s i first n) (stop : ℕ) (q : stop ≡ stop-of s) where
   pub count-done : stop ≤ i → n ≤ 60 → true ≡ is-pattern s
   count-done h few =
       sym (le-leb n 60 few) ∙ ap (λ (k : ℕ). leb k 60) (sym (add-zero n)) ∙ sym (ap (counted n) (body-stop s i first stop q h)) ∙ c .left
 
-  module _ (h : i < stop) (build : Bool) (r : Piece) (a : PieceAt (map-got (drawn build) (atom first (getD s i 0) (drop (i + 1) s))) s i r) where
+  -- another one behind 60, or a fault
+  pub count-full : i < stop → n ≡ 60 → false ≡ is-pattern s
+  count-full h full =
+      sym (ap (counted n) (here-is s i first (stop-inside s i stop q h) false (stop-before s i stop q h)) ∙ go (atom first (getD s i 0) (drop (i + 1) s))) ∙ c .left
+    where
+      go : (o : Option (Read Atom)) → counted n (going s i first (stop-inside s i stop q h) o) ≡ false
+      go none = refl
+      go (some a) =
+          let more = body-of false (pick (eqb (peek (a .rest)) 42) (drop 1 (a .rest)) (a .rest)) in
+          counted-more (elem (eqb (peek (a .rest)) 42) (a .got)) n more ∙ counted-past (n + 1) more (omega arith)
+
+  module _ (h : i < stop) (f : Atom → List ℕ) (r : Piece) (a : PieceAt (map-got f (atom first (getD s i 0) (drop (i + 1) s))) s i r) where
     pub count-lost : r .end ≡ 0 → false ≡ is-pattern s
-    count-lost z = sym (ap (counted n) (body-lost s i first (stop-inside s i stop q h) build r a (stop-before s i stop q h) z)) ∙ c .left
+    count-lost z = sym (ap (counted n) (body-lost s i first (stop-inside s i stop q h) f r a (stop-before s i stop q h) z)) ∙ c .left
 
     pub count-more : (j : ℕ) → (r .end ≡ 0 → ⊥) → j ≡ behind-of s (r .end) → Counted s j false (n + 1)
     count-more j m w =
-        let g = body-more s i first (stop-inside s i stop q h) build r a (stop-before s i stop q h) m in
-        let f : i < r .end = a .forward m in
+        let g = body-more s i first (stop-inside s i stop q h) f r a (stop-before s i stop q h) m in
+        let ahead : i < r .end = a .forward m in
         let l : n ≤ i = c .few in
         subst⁻¹ (λ (k : ℕ). Counted s k false (n + 1)) w
         (record {
@@ -273,8 +281,3 @@ module _ (s : List ℕ) (i : ℕ) (first : Bool) (n : ℕ) (c : Counted s i firs
           few = omega (arith, behind-ge (repeats-at s (r .end)) (r .end));
           inside = behind-le s (r .end) (a .inside);
         })
-
-    -- one more than 60
-    pub count-full : (r .end ≡ 0 → ⊥) → n ≡ 60 → false ≡ is-pattern s
-    count-full m full =
-        count-many s (behind-of s (r .end)) false (n + 1) (count-more (behind-of s (r .end)) m refl) (omega arith)

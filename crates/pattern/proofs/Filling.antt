@@ -19,7 +19,6 @@ use Rattle.pattern.specs.Pattern.{Atom, Elem, Pattern}
 use Rattle.pattern.specs.Places.{map-got, body-of, start-of, stop-of, PieceAt}
 use Rattle.pattern.specs.Prepared.{starred, no-marks, may-lead, mark, marks, sets-of, befores, sets-after, befores-after, marks-of, ends-anchored, shape-by, no-shape, shape-of, read-front, FilledFor, Prepared, Ready}
 use Rattle.pattern.specs.Reading.{atom, elem, Body, read-pattern}
-use Rattle.pattern.specs.Drawn.{drawn}
 use Rattle.pattern.specs.declared.edition1.Marks.{Marks}
 use Rattle.pattern.specs.declared.reader.Piece.{Piece}
 use Rattle.pattern.proofs.Elements.{repeats-at, behind-of, with-elem, Step, anchor-at, body-stop, body-more, finished, read-is, count-empty, starred-elem}
@@ -117,7 +116,7 @@ module _ (s : List ℕ) (w : Whole s) (i : ℕ) (first : Bool) (m : Marks) (f : 
     pub fill-stop : (stop : ℕ) → stop ≡ stop-of s → stop ≤ i → FilledFor fold (read-pattern s) m (ltb i (length s)) old-sets ss old-before bs
     fill-stop stop q h = done (ltb i (length s)) (body-stop s i first stop q h)
 
-  module _ (h : i < length s) (e : anchor-at s i ≡ false) (r : Piece) (a : PieceAt (map-got (drawn true) (atom first (getD s i 0) (drop (i + 1) s))) s i r)
+  module _ (h : i < length s) (e : anchor-at s i ≡ false) (g : Atom → List ℕ) (r : Piece) (a : PieceAt (map-got g (atom first (getD s i 0) (drop (i + 1) s))) s i r)
       (n : r .end ≡ 0 → ⊥) where
     -- the element at i, and those behind it
     record Split : Type 0 where
@@ -127,17 +126,17 @@ module _ (s : List ℕ) (w : Whole s) (i : ℕ) (first : Bool) (m : Marks) (f : 
       is : f .rest ≡ record { parts = elem (repeats-at s (r .end)) value ∷ more .parts; anchored = more .anchored }
 
     split : Split
-    split = go (body-more s i first h true r a e n) (body-of false (drop (behind-of s (r .end)) s)) refl
+    split = go (body-more s i first h g r a e n) (body-of false (drop (behind-of s (r .end)) s)) refl
       where
-        go : (g : Step true s i first (r .end) (r .set)) (o : Option Body) → body-of false (drop (behind-of s (r .end)) s) ≡ o → Split
-        go g none q =
-            let z : _≡_ {A = Option Body} none (some (f .rest)) = sym (g .left ∙ ap (with-elem (elem (repeats-at s (r .end)) (g .value))) q) ∙ f .reads in
+        go : (x : Step g s i first (r .end) (r .set)) (o : Option Body) → body-of false (drop (behind-of s (r .end)) s) ≡ o → Split
+        go x none q =
+            let z : _≡_ {A = Option Body} none (some (f .rest)) = sym (x .left ∙ ap (with-elem (elem (repeats-at s (r .end)) (x .value))) q) ∙ f .reads in
             absurd (let y : _≡_ {A = ℕ} 0 1 = cc in omega arith)
-        go g (some more) q =
-            let z : _≡_ {A = Option Body} (some (record { parts = elem (repeats-at s (r .end)) (g .value) ∷ more .parts; anchored = more .anchored })) (some (f .rest)) =
-            sym (g .left ∙ ap (with-elem (elem (repeats-at s (r .end)) (g .value))) q) ∙ f .reads
+        go x (some more) q =
+            let z : _≡_ {A = Option Body} (some (record { parts = elem (repeats-at s (r .end)) (x .value) ∷ more .parts; anchored = more .anchored })) (some (f .rest)) =
+            sym (x .left ∙ ap (with-elem (elem (repeats-at s (r .end)) (x .value))) q) ∙ f .reads
             in
-            record { value = g .value; more = more; reads = q; is = cc }
+            record { value = x .value; more = more; reads = q; is = cc }
 
     pub fill-more : (i′ : ℕ) (m′ : Marks) (t : Bool) → t ≡ repeats-at s (r .end) → i′ ≡ behind-of s (r .end) → m′ ≡ mark m t → Filling s w i′ false m′
     fill-more i′ m′ t et ei em =

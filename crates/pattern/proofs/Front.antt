@@ -14,7 +14,6 @@ use Rattle.octets.specs.Lists.{pick, peek, empty}
 use Rattle.octets.specs.Option.{_>>=_}
 use Rattle.octets.proofs.Tests.{either}
 use Rattle.machine.proofs.Places.{drop-at, empty-at}
-use Rattle.pattern.specs.Drawn.{drawn}
 use Rattle.pattern.specs.Pattern.{Atom, Elem}
 use Rattle.pattern.specs.Places.{map-got, body-of, front-of, start-of, stop-of, PieceAt}
 use Rattle.pattern.specs.Prepared.{starred, atom-of, no-marks, mark, before-at, set-as, sets-of, befores, read-front}
@@ -89,9 +88,9 @@ front-parts first s b e = parts-by (suc (length s)) first s b e
 -- ---- by place
 
 -- the element at i, and those behind it
-record Ahead (s : List ℕ) (i : ℕ) (first : Bool) (end : ℕ) (set : List ℕ) : Type 0 where
+record Ahead (f : Atom → List ℕ) (s : List ℕ) (i : ℕ) (first : Bool) (end : ℕ) (set : List ℕ) : Type 0 where
   value : Atom
-  drawing : drawn true value ≡ set
+  drawing : f value ≡ set
   left : front-of first (drop i s) ≡ elem (repeats-at s end) value ∷ front-of false (drop (behind-of s end) s)
 
 module _ (s : List ℕ) (i : ℕ) (first : Bool) (h : i < length s) where
@@ -107,13 +106,13 @@ module _ (s : List ℕ) (i : ℕ) (first : Bool) (h : i < length s) where
       ∙ ap (λ (x : Bool). pick x [] (front-from (λ u. front-of false u) (atom first b rest)))
       (ap (λ (x : Bool). eqb b 36 && x) (empty-at s (i + 1) (omega arith)) ∙ e)
 
-  module _ (r : Piece) (a : PieceAt (map-got (drawn true) (atom first b rest)) s i r) (e : anchor-at s i ≡ false) where
+  module _ (f : Atom → List ℕ) (r : Piece) (a : PieceAt (map-got f (atom first b rest)) s i r) (e : anchor-at s i ≡ false) where
     front-lost : r .end ≡ 0 → front-of first (drop i s) ≡ []
-    front-lost z = here-is false e ∙ ap (front-from (λ u. front-of false u)) (map-none (drawn true) (atom first b rest) (piece-lost a z))
+    front-lost z = here-is false e ∙ ap (front-from (λ u. front-of false u)) (map-none f (atom first b rest) (piece-lost a z))
 
-    front-more : (r .end ≡ 0 → ⊥) → Ahead s i first (r .end) (r .set)
+    front-more : (r .end ≡ 0 → ⊥) → Ahead f s i first (r .end) (r .set)
     front-more n =
-        let g = map-some (drawn true) (atom first b rest) (r .set) (drop (r .end) s) (piece-found a n) in
+        let g = map-some f (atom first b rest) (r .set) (drop (r .end) s) (piece-found a n) in
         record {
           value = g .value;
           drawing = g .drawing;
@@ -177,18 +176,18 @@ module _ (fold : Bool) (s : List ℕ) (old-sets : List (List ℕ)) (old-before :
     }
 
     module _ (h : i < length s) (e : anchor-at s i ≡ false) where
-      module _ (r : Piece) (a : PieceAt (map-got (drawn true) (atom first (getD s i 0) (drop (i + 1) s))) s i r) where
+      module _ (r : Piece) (a : PieceAt (map-got (set-as fold) (atom first (getD s i 0) (drop (i + 1) s))) s i r) where
         pub stands-lost : r .end ≡ 0 → Stands ss bs
-        stands-lost z = nothing-left (front-lost s i first h r a e z)
+        stands-lost z = nothing-left (front-lost s i first h (set-as fold) r a e z)
 
-        pub store-more : (r .end ≡ 0 → ⊥) → (i′ : ℕ) (m′ : Marks) (u : List ℕ) (v : ℕ) (t : Bool) → ((x : Atom) → r .set ≡ drawn true x → u ≡ set-as fold x)
-            → t ≡ repeats-at s (r .end) → i′ ≡ behind-of s (r .end) → m′ ≡ mark m t → v ≡ before-at m t → Storing i′ false m′ (set ss (m .at) u) (set bs (m .at) v)
-        store-more n i′ m′ u v t eu et ei em ev =
-            let x = front-more s i first h r a e n in
+        pub store-more : (r .end ≡ 0 → ⊥) → (i′ : ℕ) (m′ : Marks) (v : ℕ) (t : Bool) → t ≡ repeats-at s (r .end) → i′ ≡ behind-of s (r .end)
+            → m′ ≡ mark m t → v ≡ before-at m t → Storing i′ false m′ (set ss (m .at) (r .set)) (set bs (m .at) v)
+        store-more n i′ m′ v t et ei em ev =
+            let x = front-more s i first h (set-as fold) r a e n in
             let one : starred (elem (repeats-at s (r .end)) (x .value)) ≡ t = starred-elem (repeats-at s (r .end)) (x .value) ∙ sym et in
-            let draw : set-as fold (atom-of (elem (repeats-at s (r .end)) (x .value))) ≡ u = ap (set-as fold) (atom-elem (repeats-at s (r .end)) (x .value)) ∙ sym (eu (x .value) (sym (x .drawing))) in
-            subst⁻¹ (λ (k : ℕ). Storing k false m′ (set ss (m .at) u) (set bs (m .at) v)) ei
-            (subst⁻¹ (λ (k : Marks). Storing (behind-of s (r .end)) false k (set ss (m .at) u) (set bs (m .at) v)) em
+            let draw : set-as fold (atom-of (elem (repeats-at s (r .end)) (x .value))) ≡ r .set = ap (set-as fold) (atom-elem (repeats-at s (r .end)) (x .value)) ∙ x .drawing in
+            subst⁻¹ (λ (k : ℕ). Storing k false m′ (set ss (m .at) (r .set)) (set bs (m .at) v)) ei
+            (subst⁻¹ (λ (k : Marks). Storing (behind-of s (r .end)) false k (set ss (m .at) (r .set)) (set bs (m .at) v)) em
             (record {
               sets-on =
                   ap₂ (λ (k : ℕ) (y : List ℕ). sets (set ss (m .at) y) k (sets-of fold (front-of false (drop (behind-of s (r .end)) s)))) (add-one (m .at)) (sym draw)

@@ -9,6 +9,7 @@ pub mod Filling
 pub mod Finding
 pub mod Front
 pub mod Items
+pub mod Laying
 pub mod Listing
 pub mod Loading
 pub mod Meaning

@@ -3,25 +3,31 @@ use mathlib.Core.Path.{_≡_, refl, sym, ap, _∙_, subst⁻¹}
 use mathlib.Core.Bool.{Bool, true, false, not, _||_, true≢false}
 use mathlib.Core.Option.{Option, none, some}
 use mathlib.Core.List.{List, [], _∷_}
-use Prim.Native.Nat.{ℕ, _+_, _<_, _≤_}
+use Prim.Native.Nat.{ℕ, _+_, _-_, _<_, _≤_}
 use native.Mathlib.Omega.{arith}
 use lib.Dec.{eqb, ltb}
-use lib.ListN.{length, getD, drop, set, length-set}
-use borrow.Author.Tests.{ne-eqb}
+use lib.ListN.{length, getD, set, length-set}
+use borrow.Author.Tests.{eq-eqb, ne-eqb}
 use Rattle.octets.specs.Lists.{pick, peek}
 use Rattle.machine.specs.declared.Shape.{Shape}
 use Rattle.pattern.specs.Answers.{was-read, is-pattern}
-use Rattle.pattern.specs.Pattern.{Atom, Elem, Pattern}
-use Rattle.pattern.specs.Places.{map-got, start-of, stop-of, PieceAt}
-use Rattle.pattern.specs.Prepared.{no-marks, may-lead, mark, marks, before-at, set-as, shape-by, no-shape, takes-part, shape-of, FilledFor, Loaded}
-use Rattle.pattern.specs.Reading.{atom, read-pattern}
-use Rattle.pattern.specs.Drawn.{drawn}
+use Rattle.pattern.specs.Pattern.{Elem, Pattern}
+use Rattle.pattern.specs.Places.{start-of, stop-of}
+use Rattle.pattern.specs.Prepared.{no-marks, may-lead, mark, marks, before-at, set-as, shape-by, no-shape, takes-part, shape-of, LaidAt, FilledFor, Loaded}
+use Rattle.pattern.specs.Reading.{read-pattern}
 use Rattle.pattern.specs.declared.edition1.Marks.{Marks}
 use Rattle.pattern.specs.declared.reader.Piece.{Piece}
 use Rattle.pattern.proofs.Elements.{repeats-at, behind-of, anchor-at, stop-inside, stop-before, Counted, count-empty, count-start, count-lost, count-more, count-full, count-done}
 use Rattle.pattern.proofs.Positions.{at-bit, free-bit}
 use Rattle.pattern.proofs.Front.{Stands, Storing, stands-empty, stands-stop, stands-lost, stands-many, store-start, store-more}
 use Rattle.pattern.proofs.Filling.{Fills, fill-start, fill-stop, fill-more, prepare-refused, prepare-on, prepared-ready}
+
+pub load-room : (n : ℕ) → n ≤ 60 → (n ≡ 60 → ⊥) → n < 60
+load-room n l free = omega arith
+
+-- what is left gets shorter
+pub load-less : (n i e j : ℕ) → i < e → e ≤ j → e ≤ n → n - j < n - i
+load-less n i e j h k l = omega arith
 
 module _ (fold : Bool) (s : List ℕ) (old-sets : List (List ℕ)) (old-before : List ℕ) where
   -- the elements before i are stored, and those from i on decide whether there is a pattern
@@ -75,55 +81,60 @@ module _ (fold : Bool) (s : List ℕ) (old-sets : List (List ℕ)) (old-before :
             let st = stands-stop fold s old-sets old-before i first m ss bs (l .stores) stop w k in
             load-filled h next m (ltb i (length s)) ss bs y q (fill-stop s (f .0) i first m (f .1) fold old-sets ss old-before bs st (l .room-sets) (l .room-before) stop w k) z st
 
-        module _ (k : i < stop) (r : Piece) (a : PieceAt (map-got (drawn true) (atom first (getD s i 0) (drop (i + 1) s))) s i r) where
+        module _ (k : i < stop) where
           inside : i < length s
           inside = stop-inside s i stop w k
 
           no-anchor : anchor-at s i ≡ false
           no-anchor = stop-before s i stop w k
 
-          pub load-lost : r .end ≡ 0 → (h : Shape) → h ≡ no-shape → Loaded fold s h old-sets ss old-before bs
-          load-lost z h q = load-refused h ss bs (count-lost s i first (m .at) (l .counts) stop w k true r a z) q (l .room-sets) (l .room-before)
-              (stands-lost fold s old-sets old-before i first m ss bs (l .stores) inside no-anchor r a z)
+          pub load-many : m .at ≡ 60 → (h : Shape) → h ≡ no-shape → Loaded fold s h old-sets ss old-before bs
+          load-many full h q = load-refused h ss bs (count-full s i first (m .at) (l .counts) stop w k full) q (l .room-sets) (l .room-before)
+              (stands-many fold s old-sets old-before i first m ss bs (l .stores) full (l .room-sets) (l .room-before))
 
-          module _ (n : r .end ≡ 0 → ⊥) where
-            counts-on : (i′ : ℕ) → i′ ≡ behind-of s (r .end) → Counted s i′ false (m .at + 1)
-            counts-on i′ q = count-more s i first (m .at) (l .counts) stop w k true r a i′ n q
+          -- the element at i is laid
+          module _ (end : ℕ) (ss′ : List (List ℕ)) (a : LaidAt fold first s i (m .at) end ss ss′) where
+            abbrev r : Piece
+            r = record { end = end; set = getD ss′ (m .at) [] }
 
-            pub load-many : m .at ≡ 60 → (h : Shape) → h ≡ no-shape → Loaded fold s h old-sets ss old-before bs
-            load-many full h q = load-refused h ss bs (count-full s i first (m .at) (l .counts) stop w k true r a n full) q (l .room-sets) (l .room-before)
-                (stands-many fold s old-sets old-before i first m ss bs (l .stores) full (l .room-sets) (l .room-before))
+            stored-by : (t : Bool) → eqb end 0 ≡ t → ss′ ≡ pick t ss (set ss (m .at) (r .set))
+            stored-by t e = a .stored ∙ ap (λ (b : Bool). pick b ss (set ss (m .at) (r .set))) e
 
-            pub load-room : (m .at ≡ 60 → ⊥) → m .at < 60
-            load-room free = let w : m .at ≤ 60 = l .low in omega arith
+            pub load-lost : end ≡ 0 → (h : Shape) → h ≡ no-shape → Loaded fold s h old-sets ss′ old-before bs
+            load-lost z h q =
+                subst⁻¹ (λ (x : List (List ℕ)). Loaded fold s h old-sets x old-before bs) (stored-by true (eq-eqb end 0 z))
+                (load-refused h ss bs (count-lost s i first (m .at) (l .counts) stop w k (set-as fold) r (a .piece) z) q (l .room-sets) (l .room-before)
+                (stands-lost fold s old-sets old-before i first m ss bs (l .stores) inside no-anchor r (a .piece) z))
 
-            load-more : (m .at ≡ 60 → ⊥) → (i′ : ℕ) (m′ : Marks) (u : List ℕ) (v : ℕ) (b : Bool) → ((x : Atom) → r .set ≡ drawn true x → u ≡ set-as fold x) → b ≡ repeats-at s (r .end)
-                → i′ ≡ behind-of s (r .end) → m′ ≡ mark m b → v ≡ before-at m b → Loading i′ false m′ (set ss (m .at) u) (set bs (m .at) v)
-            load-more free i′ m′ u v b eu eb ei em ev =
-                let one : m′ .at ≡ m .at + 1 = ap (λ (x : Marks). x .at) em in
-                record {
-                  counts = counts-at i′ ei (m′ .at) one;
-                  fills = λ y. let f = l .fills y in (f .0, fill-more s (f .0) i first m (f .1) inside no-anchor r a n i′ m′ b eb ei em);
-                  stores = store-more fold s old-sets old-before i first m ss bs (l .stores) inside no-anchor r a n i′ m′ u v b eu eb ei em ev;
-                  low = omega (arith, load-room free);
-                  room-sets = length-set ss (m .at) u ∙ l .room-sets;
-                  room-before = length-set bs (m .at) v ∙ l .room-before;
-                }
-              where
-                counts-at : (i′ : ℕ) → i′ ≡ behind-of s (r .end) → (w : ℕ) → w ≡ m .at + 1 → Counted s i′ false w
-                counts-at i′ ei w q = rw q (counts-on i′ ei)
+            module _ (n : end ≡ 0 → ⊥) (free : m .at ≡ 60 → ⊥) where
+              counts-on : (i′ : ℕ) → i′ ≡ behind-of s end → (x : ℕ) → x ≡ m .at + 1 → Counted s i′ false x
+              counts-on i′ q x e = rw e (count-more s i first (m .at) (l .counts) stop w k (set-as fold) r (a .piece) i′ n q)
 
-            -- the element stands once, or a `*` follows it
-            module _ (free : m .at ≡ 60 → ⊥) (u : List ℕ) (eu : (x : Atom) → r .set ≡ drawn true x → u ≡ set-as fold x) (t : Bool) (f : t ≡ repeats-at s (r .end)) (m′ : Marks) (v : ℕ) where
-              pub load-starred : t ≡ true → m′ ≡ mark m true → v ≡ before-at m true → Loading (r .end + 1) false m′ (set ss (m .at) u) (set bs (m .at) v)
-              load-starred z em ev =
-                  let e : true ≡ repeats-at s (r .end) = sym z ∙ f in
-                  load-more free (r .end + 1) m′ u v true eu e (ap (λ (b : Bool). pick b (r .end + 1) (r .end)) e) em ev
+              load-more : (i′ : ℕ) (m′ : Marks) (v : ℕ) (b : Bool) → b ≡ repeats-at s end → i′ ≡ behind-of s end → m′ ≡ mark m b → v ≡ before-at m b
+                  → Loading i′ false m′ ss′ (set bs (m .at) v)
+              load-more i′ m′ v b eb ei em ev =
+                  let one : m′ .at ≡ m .at + 1 = ap (λ (x : Marks). x .at) em in
+                  subst⁻¹ (λ (x : List (List ℕ)). Loading i′ false m′ x (set bs (m .at) v)) (stored-by false (ne-eqb end 0 n))
+                  (record {
+                    counts = counts-on i′ ei (m′ .at) one;
+                    fills = λ y. let f = l .fills y in (f .0, fill-more s (f .0) i first m (f .1) inside no-anchor (set-as fold) r (a .piece) n i′ m′ b eb ei em);
+                    stores = store-more fold s old-sets old-before i first m ss bs (l .stores) inside no-anchor r (a .piece) n i′ m′ v b eb ei em ev;
+                    low = omega (arith, load-room (m .at) (l .low) free);
+                    room-sets = length-set ss (m .at) (r .set) ∙ l .room-sets;
+                    room-before = length-set bs (m .at) v ∙ l .room-before;
+                  })
 
-              pub load-once : t ≡ false → m′ ≡ mark m false → v ≡ before-at m false → Loading (r .end) false m′ (set ss (m .at) u) (set bs (m .at) v)
-              load-once z em ev =
-                  let e : false ≡ repeats-at s (r .end) = sym z ∙ f in
-                  load-more free (r .end) m′ u v false eu e (ap (λ (b : Bool). pick b (r .end + 1) (r .end)) e) em ev
+              -- it stands once, or a `*` follows it
+              module _ (t : Bool) (f : t ≡ repeats-at s end) (m′ : Marks) (v : ℕ) where
+                pub load-starred : t ≡ true → m′ ≡ mark m true → v ≡ before-at m true → Loading (end + 1) false m′ ss′ (set bs (m .at) v)
+                load-starred z em ev =
+                    let e : true ≡ repeats-at s end = sym z ∙ f in
+                    load-more (end + 1) m′ v true e (ap (λ (b : Bool). pick b (end + 1) end) e) em ev
+
+                pub load-once : t ≡ false → m′ ≡ mark m false → v ≡ before-at m false → Loading end false m′ ss′ (set bs (m .at) v)
+                load-once z em ev =
+                    let e : false ≡ repeats-at s end = sym z ∙ f in
+                    load-more end m′ v false e (ap (λ (b : Bool). pick b (end + 1) end) e) em ev
 
 -- ---- what the machine tells
 

@@ -6,9 +6,9 @@ use mathlib.Core.List.{List, [], _∷_}
 use Prim.Native.Nat.{ℕ, zero, suc, _+_, _-_, _*_, _/_, _%_, _^_, _<_, _≤_}
 use native.Mathlib.Nat.{mod-lt, lt-of-le-of-lt}
 use native.Mathlib.Omega.{arith}
-use lib.Bits.{bitAnd, bitOr, bitXor, and-le-r, or-lt, xor-lt, xor-self, xor-zero-l}
+use lib.Bits.{bitAnd, bitOr, bitXor, and-le-r, or-lt, xor-lt}
 use lib.Dec.{eqb, ltb, leb}
-use lib.ListN.{getD, replicate}
+use lib.ListN.{getD, set, replicate}
 use lib.Pow.{pow-lt, pow-pos, shl-exact}
 use borrow.Author.Tests.{eqb-true, eqb-false, eq-eqb, ne-eqb, ltb-true, ltb-false, lt-ltb, le-ltb, le-leb, lt-leb, leb-true, leb-false}
 use Rattle.octets.specs.Bits.{bit, mask}
@@ -97,36 +97,16 @@ module _ (c : ℕ) where
   away : (i : ℕ) → (i ≡ c / 64 → ⊥) → 0 ≡ word (eqb c) i
   away i n = none-set (λ k. eqb c (64 * i + k)) (λ k h. ne-eqb c (64 * i + k) (λ z. n (omega arith)))
 
-  -- the two words from i on, of which the second begins at `middle`
-  module _ (i middle x : ℕ) (m : 64 * i + 64 ≡ middle) (low : 64 * i ≤ c) (high : c < 64 * i + 128)
-      (e : x ≡ pick (leb middle c) 0 (1 * 2 ^ (c % 64) % 2 ^ 64)) where
-    abbrev set-bit : ℕ
-    set-bit = 1 * 2 ^ (c % 64) % 2 ^ 64
-
-    pair : (x ≡ word (eqb c) i) × (bitXor x set-bit ≡ word (eqb c) (i + 1))
-    pair = go (leb middle c) refl
-      where
-        go : (t : Bool) → leb middle c ≡ t → (x ≡ word (eqb c) i) × (bitXor x set-bit ≡ word (eqb c) (i + 1))
-        go true t =
-            let l = leb-true middle c t in
-            let q : x ≡ 0 = e ∙ ap (λ (b : Bool). pick b 0 set-bit) t in
-            (q ∙ away i (λ z. omega arith), ap (λ (n : ℕ). bitXor n set-bit) q ∙ xor-zero-l set-bit ∙ here (i + 1) (omega arith))
-        go false t =
-            let l = leb-false middle c t in
-            let q : x ≡ set-bit = e ∙ ap (λ (b : Bool). pick b 0 set-bit) t in
-            (q ∙ here i (omega arith), ap (λ (n : ℕ). bitXor n set-bit) q ∙ xor-self set-bit ∙ away (i + 1) (λ z. omega arith))
-
-  pub only-low : (x : ℕ) → c < 128 → x ≡ pick (leb 64 c) 0 (1 * 2 ^ (c % 64) % 2 ^ 64)
-      → x ∷ bitXor x (1 * 2 ^ (c % 64) % 2 ^ 64) ∷ 0 ∷ 0 ∷ [] ≡ words (eqb c)
-  only-low x h e =
-      let p = pair 0 64 x refl (omega arith) (omega arith) e in
-      four-words (eqb c) (p .0) (p .1) (away 2 (λ z. omega arith)) (away 3 (λ z. omega arith))
-
-  pub only-high : (x : ℕ) → c < 256 → 128 ≤ c → x ≡ pick (leb 192 c) 0 (1 * 2 ^ (c % 64) % 2 ^ 64)
-      → 0 ∷ 0 ∷ x ∷ bitXor x (1 * 2 ^ (c % 64) % 2 ^ 64) ∷ [] ≡ words (eqb c)
-  only-high x g h e =
-      let p = pair 2 192 x refl (omega arith) (omega arith) e in
-      four-words (eqb c) (away 0 (λ z. omega arith)) (away 1 (λ z. omega arith)) (p .0) (p .1)
+  -- a cleared set with its bit
+  pub only-words : c < 256 → set (replicate 4 0) (c / 64) (1 * 2 ^ (c % 64) % 2 ^ 64) ≡ words (eqb c)
+  only-words h = go (c / 64) refl (omega arith)
+    where
+      go : (i : ℕ) → i ≡ c / 64 → i < 4 → set (replicate 4 0) i (1 * 2 ^ (c % 64) % 2 ^ 64) ≡ words (eqb c)
+      go zero q l = four-words (eqb c) (here 0 q) (away 1 (λ z. omega arith)) (away 2 (λ z. omega arith)) (away 3 (λ z. omega arith))
+      go (suc zero) q l = four-words (eqb c) (away 0 (λ z. omega arith)) (here 1 q) (away 2 (λ z. omega arith)) (away 3 (λ z. omega arith))
+      go (suc (suc zero)) q l = four-words (eqb c) (away 0 (λ z. omega arith)) (away 1 (λ z. omega arith)) (here 2 q) (away 3 (λ z. omega arith))
+      go (suc (suc (suc zero))) q l = four-words (eqb c) (away 0 (λ z. omega arith)) (away 1 (λ z. omega arith)) (away 2 (λ z. omega arith)) (here 3 q)
+      go (suc (suc (suc (suc i)))) q l = absurd (omega arith)
 
 -- ---- a range more: of the 64 bytes from a place on, those that are not below lo and not above hi
 
@@ -344,14 +324,25 @@ module _ (f : ℕ → Bool) where
           past true u = let g = ltb-true i 2 u in let l = ltb-false i 1 e in absurd (n (omega arith))
           past false u = ltb-false i 2 u
 
-  pub folded-words : (ws : List ℕ) → ws ≡ words f
-      → getD ws 0 0
-      ∷ bitOr (bitOr (getD ws 1 0) (bitAnd (bitOr (getD ws 1 0 / 2 ^ 1) (getD ws 1 0 / 2 ^ 33)) letters * 2 ^ 1 % 2 ^ 64))
-      (bitAnd (bitOr (getD ws 1 0 / 2 ^ 1) (getD ws 1 0 / 2 ^ 33)) letters * 2 ^ 33 % 2 ^ 64)
-      ∷ getD ws 2 0 ∷ getD ws 3 0 ∷ []
-      ≡ words both-forms
-  unfolding words
-  folded-words ws e =
-      rw e
-      (four-words both-forms (outside 0 (λ z. omega arith)) (mask-of 64 folded (λ k. both-forms (64 * 1 + k)) folded-lt folded-bit)
-      (outside 2 (λ z. omega arith)) (outside 3 (λ z. omega arith)))
+  -- as code makes it
+  pub letters-word : (x : ℕ) → x ≡ w
+      → bitOr (bitOr x (bitAnd (bitOr (x / 2 ^ 1) (x / 2 ^ 33)) letters * 2 ^ 1 % 2 ^ 64)) (bitAnd (bitOr (x / 2 ^ 1) (x / 2 ^ 33)) letters * 2 ^ 33 % 2 ^ 64)
+      ≡ word both-forms 1
+  letters-word x e = rw e (mask-of 64 folded (λ k. both-forms (64 * 1 + k)) folded-lt folded-bit)
+
+  three-kept : (x : ℕ) → x ≡ word both-forms 1 → word f 0 ∷ x ∷ word f 2 ∷ word f 3 ∷ [] ≡ words both-forms
+  three-kept x e = four-words both-forms (outside 0 (λ z. omega arith)) e (outside 2 (λ z. omega arith)) (outside 3 (λ z. omega arith))
+
+  module _ (ws : List ℕ) (x : ℕ) (q : getD ws 1 0 ≡ w → x ≡ word both-forms 1) (e : ws ≡ words f) where
+    new-word : x ≡ word both-forms 1
+    unfolding words
+    new-word = q (ap (λ (l : List ℕ). getD l 1 0) e)
+
+    pub folded-words : getD ws 0 0 ∷ x ∷ getD ws 2 0 ∷ getD ws 3 0 ∷ [] ≡ words both-forms
+    unfolding words
+    folded-words = ap (λ (l : List ℕ). getD l 0 0 ∷ x ∷ getD l 2 0 ∷ getD l 3 0 ∷ []) e ∙ three-kept x new-word
+
+    -- where the set stands
+    pub folded-set : set ws 1 x ≡ words both-forms
+    unfolding words
+    folded-set = ap (λ (l : List ℕ). set l 1 x) e ∙ three-kept x new-word

@@ -6,15 +6,15 @@ use mathlib.Core.List.{List, [], _∷_, _++_}
 use Prim.Native.Nat.{ℕ, _+_, _%_, _^_}
 use lib.Bits.{bitOr}
 use lib.Dec.{eqb}
-use lib.ListN.{length, drop}
+use lib.ListN.{length, getD, drop, set}
 use lib.Seq.{sets as in-turn}
 use Rattle.octets.specs.Bits.{bit}
 use Rattle.octets.specs.Lists.{pick}
 use Rattle.machine.specs.declared.Shape.{Shape}
 use Rattle.pattern.specs.Pattern.{Atom, Elem, once, star, Pattern}
-use Rattle.pattern.specs.Reading.{read-pattern}
+use Rattle.pattern.specs.Reading.{atom, read-pattern}
 use Rattle.pattern.specs.Answers.{is-pattern, meet-as}
-use Rattle.pattern.specs.Places.{front-of, start-of}
+use Rattle.pattern.specs.Places.{map-got, front-of, start-of, PieceAt}
 use Rattle.pattern.specs.Sets.{words}
 use Rattle.pattern.specs.declared.edition1.Marks.{Marks}
 
@@ -72,6 +72,11 @@ sets-of fold (e ∷ es) = set-as fold (atom-of e) ∷ sets-of fold es
 abbrev pub befores : Marks → List Elem → List ℕ
 befores m [] = []
 befores m (e ∷ es) = before-at m (starred e) ∷ befores (mark m (starred e)) es
+
+-- what laying the atom at i leaves: where it ends, and its set at the place `at`; 0, and nothing laid, where it is refused
+pub record LaidAt (fold first : Bool) (s : List ℕ) (i at end : ℕ) (old-sets sets : List (List ℕ)) : Type 0 where
+  pub piece : PieceAt (map-got (set-as fold) (atom first (getD s i 0) (drop (i + 1) s))) s i (record { end = end; set = getD sets at [] })
+  pub stored : sets ≡ pick (eqb end 0) old-sets (set old-sets at (getD sets at []))
 
 -- `^` lets a part begin only at the text's start, `$` lets it end only at the text's end
 abbrev pub shape-by : Marks → Bool → Bool → Shape

@@ -3,22 +3,24 @@ ghost use mathlib.Core.Path.{_≡_};
 ghost use mathlib.Core.Bool.{true, _&&_};
 ghost use Prim.Native.Nat.{_+_, _^_, _<_, _≤_};
 ghost use lib.Bits.{bitOr};
-ghost use lib.ListN.{length};
+ghost use lib.ListN.{length, set};
 ghost use Rattle.octets.specs.Lists.{pick};
 ghost use Rattle.pattern.specs.Drawn.{drawn};
-ghost use Rattle.pattern.specs.Pattern.{Atom};
-ghost use Rattle.pattern.specs.Prepared.{no-marks, may-lead, mark as marked, before-at, set-as, shape-by, no-shape, takes-part, Loaded};
+ghost use Rattle.pattern.specs.Pattern.{Atom, byte};
+ghost use Rattle.pattern.specs.Prepared.{no-marks, may-lead, mark as marked, before-at, set-as, shape-by, no-shape, takes-part, LaidAt, Loaded};
 use crate::reader::atom_at;
+use crate::reader::is_plain;
 use crate::reader::peek_at;
 use crate::reader::star_at;
 use crate::reader::start_at;
 use crate::reader::stop_at;
 use crate::sets::folded;
+use crate::sets::folded_word;
 use crate::sets::unless;
 use machine::Shape;
 
 // Of the elements before the position `at`: those that may come right before it, and those that may come first, with `at` among
-// them where all before it may be left out. So an element that does not repeat leaves the second as they are.
+// them where all before it may be left out. So an element that does not repeat leaves the latter alone.
 pub struct Marks {
     pub at: usize,
     pub run: u64,
@@ -95,6 +97,48 @@ fn set_as(fold: bool, set: [u64; 4]) -> [u64; 4]
     set
 }
 
+// Lays the set of one byte where it is to stand: made as a value it would be written to memory and read again.
+fn lay_byte(c: u8, fold: bool, sets: &mut [[u64; 4]; 60], at: usize)
+    requires { ⌜ (at < 60) × (length (now sets) ≡ 60) ⌝ }
+    ensures { λ r. ⌜ now (sets .exit) ≡ set (now (sets .entry)) at (set-as fold (byte c)) ⌝ }
+{
+    let none = [0u64; 4];
+    let w = c as usize / 64;
+    sets[at] = none;
+    sets[at][w] = 1 << (c % 64);
+    if fold {
+        sets[at][1] = folded_word(sets[at][1]);
+    }
+}
+
+// Lays the set of the atom that begins at i, and answers where the atom ends, or 0. Nearly all atoms are plain bytes.
+fn lay_atom(
+    s: &[u8],
+    i: usize,
+    first: bool,
+    fold: bool,
+    sets: &mut [[u64; 4]; 60],
+    at: usize,
+) -> usize
+    requires { ⌜ (i < length (now s)) × (at < 60) × (length (now sets) ≡ 60) ⌝ }
+    ensures { λ r. ⌜ LaidAt fold first (now (s .entry)) i at r (now (sets .entry)) (now (sets .exit)) ⌝ }
+{
+    let b = s[i];
+    if is_plain(b) {
+        lay_byte(b, fold, sets, at);
+        return i + 1;
+    }
+    let a = atom_at(s, i, first, true);
+    let end = a.end;
+    if end == 0 {
+        return 0;
+    }
+    let read = a.set;
+    let set = set_as(fold, read);
+    sets[at] = set;
+    end
+}
+
 // The machine of all elements, with the anchors `^` and `$`.
 fn shape_by(m: Marks, left: bool, right: bool) -> Shape
     requires { ⌜ m .at ≤ 60 ⌝ }
@@ -158,18 +202,14 @@ pub fn load(s: &[u8], fold: bool, sets: &mut [[u64; 4]; 60], before: &mut [u64; 
     let mut first = true;
     let mut m = no_marks();
     while i < stop {
-        let a = atom_at(s, i, first, true);
-        let end = a.end;
         let at = m.at;
-        if end == 0 {
-            return no_shape();
-        }
         if at == 60 {
             return no_shape();
         }
-        let read = a.set;
-        let set = set_as(fold, read);
-        sets[at] = set;
+        let end = lay_atom(s, i, first, fold, sets, at);
+        if end == 0 {
+            return no_shape();
+        }
         first = false;
         // Two ways, not one with a flag: the next element then need not wait until this byte is read.
         if star_at(s, end, stop) {

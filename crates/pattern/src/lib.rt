@@ -33,12 +33,12 @@ pub fn is_pattern(s: &[u8]) -> bool
     let mut first = true;
     let mut n: usize = 0;
     while i < stop {
+        if n == 60 {
+            return false;
+        }
         let a = atom_at(s, i, first, false);
         let end = a.end;
         if end == 0 {
-            return false;
-        }
-        if n == 60 {
             return false;
         }
         let repeats = star_at(s, end, stop);

@@ -205,13 +205,13 @@ fn special_at(s: &[u8], i: usize, first: bool, build: bool) -> Piece
 }
 
 // A byte that stands for itself wherever it stands.
-fn is_plain(b: u8) -> bool
+pub(crate) fn is_plain(b: u8) -> bool
     ensures { λ r. ⌜ r ≡ not (some-of (eqb b) (text ".[\\*")) ⌝ }
 {
     !((b == 46) | (b == 91) | (b == 92) | (b == 42))
 }
 
-// The atom that begins at i. Nearly all are plain bytes, so it is short enough to stand in both loops over atoms, and calls for the rest.
+// The atom that begins at i: short enough to stand in both loops over atoms, and calls for what is rare.
 pub(crate) fn atom_at(s: &[u8], i: usize, first: bool, build: bool) -> Piece
     requires { ⌜ i < length (now s) ⌝ }
     ensures { λ r. ⌜ PieceAt (map-got (drawn build) (atom first (getD (now (s .entry)) i 0) (drop (i + 1) (now (s .entry))))) (now (s .entry)) i r ⌝ }

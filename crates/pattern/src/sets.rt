@@ -6,7 +6,7 @@ ghost use lib.Dec.{eqb, leb};
 ghost use Rattle.octets.specs.Bits.{mask};
 ghost use Rattle.octets.specs.Bytes.{within, lower, upper};
 ghost use Rattle.octets.specs.Lists.{pick};
-ghost use Rattle.pattern.specs.Sets.{words};
+ghost use Rattle.pattern.specs.Sets.{word, words};
 
 // All bits of a word.
 const ALL: u64 = 18446744073709551615;
@@ -23,17 +23,14 @@ pub(crate) fn unless(flag: bool, mask: u64) -> u64
     mask
 }
 
-// The set of one byte, by tests and arithmetic: a word at an index would be written to memory and read again.
+// The set of one byte.
 pub(crate) fn only(c: u8) -> [u64; 4]
     ensures { λ r. ⌜ r ≡ words (eqb c) ⌝ }
 {
-    let bit: u64 = 1 << (c % 64);
-    if c < 128 {
-        let low = unless(c >= 64, bit);
-        return [low, low ^ bit, 0, 0];
-    }
-    let low = unless(c >= 192, bit);
-    [0, 0, low, low ^ bit]
+    let mut set = [0u64; 4];
+    let w = c as usize / 64;
+    set[w] = 1 << (c % 64);
+    set
 }
 
 // Of the 64 bytes from `from` on, those that are not below lo.
@@ -89,10 +86,18 @@ pub(crate) fn others(set: [u64; 4]) -> [u64; 4]
     [(set[0] | 1) ^ ALL, set[1] ^ ALL, set[2] ^ ALL, set[3] ^ ALL]
 }
 
-// The set on a name: "an element meets a byte if it meets its lower or its upper form". `A` is bit 1 of the second word, `a` bit 33.
+// A set's second word on a name: "an element meets a byte if it meets its lower or its upper form". `A` is bit 1, `a` bit 33.
+pub(crate) fn folded_word(w: u64) -> u64
+    ensures { λ r. ⌜ ((f : ℕ → Bool) → w ≡ word f 1 → r ≡ word (λ b. f (lower b) || f (upper b)) 1) ⌝ }
+{
+    let found = ((w >> 1) | (w >> 33)) & LETTERS;
+    w | found << 1 | found << 33
+}
+
+// The set on a name: no other word has letters.
 pub(crate) fn folded(set: [u64; 4]) -> [u64; 4]
     ensures { λ r. ⌜ ((f : ℕ → Bool) → set ≡ words f → r ≡ words (λ b. f (lower b) || f (upper b))) ⌝ }
 {
-    let found = ((set[1] >> 1) | (set[1] >> 33)) & LETTERS;
-    [set[0], set[1] | found << 1 | found << 33, set[2], set[3]]
+    let letters = folded_word(set[1]);
+    [set[0], letters, set[2], set[3]]
 }

@@ -24,29 +24,29 @@ start-at-requires c κs = search needs
 loop-holds : tie.Need-loop-holds Inv-loop μ-loop
 loop-holds c = (search count-start, omega arith)
 
+returns-2 : tie.Need-returns-2 Inv-loop μ-loop
+returns-2 c = search count-full
+
 atom-at-requires : tie.Need-atom-at-requires Inv-loop μ-loop
 atom-at-requires c κs = search (needs, stop-inside)
 
-returns-2 : tie.Need-returns-2 Inv-loop μ-loop
-returns-2 c = search count-lost
-
 returns-3 : tie.Need-returns-3 Inv-loop μ-loop
-returns-3 c = search count-full
+returns-3 c = search count-lost
 
 star-at-requires : tie.Need-star-at-requires Inv-loop μ-loop
 star-at-requires c κs = search needs
 
 behind-requires : tie.Need-behind-requires Inv-loop μ-loop
-behind-requires c κs = omega (arith, c .before .before .before .atom-at .ensures .inside)
+behind-requires c κs = omega (arith, c .before .before .atom-at .ensures .inside)
 
 add-n : tie.Need-add-n Inv-loop μ-loop
 add-n c = omega arith
 
 loop-less : tie.Need-loop-less Inv-loop μ-loop
 loop-less c =
-    let a = c .before .before .before .before .atom-at in
+    let a = c .before .before .before .atom-at in
     let j : a .result .end ≤ c .behind .result = search behind-after in
-    omega (arith, a .ensures .forward (c .before .before .before .if2 .left))
+    omega (arith, a .ensures .forward (c .before .before .if3 .left))
 
 loop-again : tie.Need-loop-again Inv-loop μ-loop
 loop-again c = (search (count-more, behind-at), omega arith)
@@ -64,8 +64,8 @@ is-pattern-spec =
     stop-at-requires
     start-at-requires
     loop-holds
-    atom-at-requires
     returns-2
+    atom-at-requires
     returns-3
     star-at-requires
     behind-requires

@@ -1,8 +1,9 @@
 use borrow.Author.Needs.{needs}
 use Rattle.pattern.proofs.Elements.{stop-inside}
-use Rattle.pattern.proofs.Loading.{Loading, load-empty, load-start, load-end, load-lost, load-many, load-room, load-starred, load-once}
+use Rattle.pattern.proofs.Loading.{Loading, load-empty, load-start, load-end, load-lost, load-many, load-room, load-starred, load-once, load-less}
 use lib.ListN.{length}
 use Prim.Native.Nat.{_-_}
+use native.Mathlib.Nat.{le-refl, le-add-right}
 use native.Mathlib.Omega.{arith}
 use Rattle.pattern.proofs.edition1.load.Statement.{statement}
 use Rattle.pattern.proofs.edition1.load.Tie as tie
@@ -31,31 +32,24 @@ no-marks-requires c κs = search needs
 loop-holds : tie.Need-loop-holds Inv-loop μ-loop
 loop-holds c = search load-start
 
-atom-at-requires : tie.Need-atom-at-requires Inv-loop μ-loop
-atom-at-requires c κs =
-    let a = c .before .before .before .before in
-    stop-inside (a .before .before .before .args .s .now) _ _ (a .stop-at .ensures) (c .loop-test .taken)
-
 no-shape-requires-2 : tie.Need-no-shape-requires-2 Inv-loop μ-loop
 no-shape-requires-2 c κs = search needs
 
 returns-2 : tie.Need-returns-2 Inv-loop μ-loop
-returns-2 c = search load-lost
+returns-2 c = search load-many
+
+lay-atom-requires : tie.Need-lay-atom-requires Inv-loop μ-loop
+lay-atom-requires c κs =
+    let n = c .before .before in
+    let a = n .before .before .before .before in
+    let l = n .before .loop .inv in
+    (stop-inside (a .before .before .before .args .s .now) _ _ (a .stop-at .ensures) (n .loop-test .taken), load-room _ (l .low) (c .before .if2 .left), l .room-sets)
 
 no-shape-requires-3 : tie.Need-no-shape-requires-3 Inv-loop μ-loop
 no-shape-requires-3 c κs = search needs
 
 returns-3 : tie.Need-returns-3 Inv-loop μ-loop
-returns-3 c = search load-many
-
-set-as-requires : tie.Need-set-as-requires Inv-loop μ-loop
-set-as-requires c κs = search needs
-
-mul-set : tie.Need-mul-set Inv-loop μ-loop
-mul-set c = search needs
-
-element-set-from-set : tie.Need-element-set-from-set Inv-loop μ-loop
-element-set-from-set c = search load-room
+returns-3 c = search load-lost
 
 star-at-requires : tie.Need-star-at-requires Inv-loop μ-loop
 star-at-requires c κs = search needs
@@ -73,13 +67,23 @@ mark-requires : tie.Need-mark-requires Inv-loop μ-loop
 mark-requires c κs = search needs
 
 add-i : tie.Need-add-i Inv-loop μ-loop
-add-i c = omega (arith, c .before .before .before .before .before .before .before .before .atom-at .ensures .inside)
+add-i c = omega (arith, c .before .before .before .before .before .lay-atom .ensures .piece .inside)
 
 loop-less : tie.Need-loop-less Inv-loop μ-loop
-loop-less c = omega (arith, c .before .before .before .before .before .before .before .before .atom-at .ensures .forward (c .before .before .before .before .before .before .before .if2 .left))
+loop-less c =
+    let e = c .before .before .before .before in
+    let p = e .before .lay-atom .ensures .piece in
+    load-less _ _ _ _ (p .forward (e .if3 .left)) (le-add-right _ _) (p .inside)
 
 loop-again : tie.Need-loop-again Inv-loop μ-loop
-loop-again c = search load-starred
+loop-again c =
+    let e = c .before .before .before .before in
+    let d = e .before .before .before in
+    let n = d .before in
+    let a = n .before .before .before .before in
+    let s = a .before .before .before in
+    load-starred _ _ _ _ (s .pre .0) (s .pre .1) _ _ _ _ _ (n .before .loop .inv) _ (a .stop-at .ensures) (n .loop-test .taken) _ _ (e .before .lay-atom .ensures)
+    (e .if3 .left) (d .if2 .left) _ (c .before .before .before .star-at .ensures) _ _ (c .before .before .if4 .taken) (c .mark .ensures) (c .before .before-at .ensures)
 
 before-at-requires-2 : tie.Need-before-at-requires-2 Inv-loop μ-loop
 before-at-requires-2 c κs = search needs
@@ -94,10 +98,20 @@ mark-requires-2 : tie.Need-mark-requires-2 Inv-loop μ-loop
 mark-requires-2 c κs = search needs
 
 loop-less-2 : tie.Need-loop-less-2 Inv-loop μ-loop
-loop-less-2 c = omega (arith, c .before .before .before .before .before .before .before .before .atom-at .ensures .forward (c .before .before .before .before .before .before .before .if2 .left))
+loop-less-2 c =
+    let e = c .before .before .before .before in
+    let p = e .before .lay-atom .ensures .piece in
+    load-less _ _ _ _ (p .forward (e .if3 .left)) (le-refl _) (p .inside)
 
 loop-again-2 : tie.Need-loop-again-2 Inv-loop μ-loop
-loop-again-2 c = search load-once
+loop-again-2 c =
+    let e = c .before .before .before .before in
+    let d = e .before .before .before in
+    let n = d .before in
+    let a = n .before .before .before .before in
+    let s = a .before .before .before in
+    load-once _ _ _ _ (s .pre .0) (s .pre .1) _ _ _ _ _ (n .before .loop .inv) _ (a .stop-at .ensures) (n .loop-test .taken) _ _ (e .before .lay-atom .ensures)
+    (e .if3 .left) (d .if2 .left) _ (c .before .before .before .star-at .ensures) _ _ (c .before .before .if4 .left) (c .mark2 .ensures) (c .before .before-at2 .ensures)
 
 peek-at-requires : tie.Need-peek-at-requires Inv-loop μ-loop
 peek-at-requires c κs = search needs
@@ -120,14 +134,11 @@ load-spec =
     start-at-requires
     no-marks-requires
     loop-holds
-    atom-at-requires
     no-shape-requires-2
     returns-2
+    lay-atom-requires
     no-shape-requires-3
     returns-3
-    set-as-requires
-    mul-set
-    element-set-from-set
     star-at-requires
     before-at-requires
     mul-before

@@ -3,35 +3,23 @@ use Rattle.pattern.proofs.Words.{folded-words}
 use Rattle.pattern.proofs.sets.folded.Statement.{statement}
 use Rattle.pattern.proofs.sets.folded.Tie as tie
 
-array-read-found : tie.Need-array-read-found
-array-read-found c = search needs
+array-read-folded-word : tie.Need-array-read-folded-word
+array-read-folded-word c = search needs
 
-array-read-found-2 : tie.Need-array-read-found-2
-array-read-found-2 c = search needs
+folded-word-requires : tie.Need-folded-word-requires
+folded-word-requires c κs = search needs
 
 array-read-t6 : tie.Need-array-read-t6
 array-read-t6 c = search needs
 
-array-read-t12 : tie.Need-array-read-t12
-array-read-t12 c = search needs
+array-read-t11 : tie.Need-array-read-t11
+array-read-t11 c = search needs
 
-array-read-t20 : tie.Need-array-read-t20
-array-read-t20 c = search needs
-
-array-read-t23 : tie.Need-array-read-t23
-array-read-t23 c = search needs
+array-read-t14 : tie.Need-array-read-t14
+array-read-t14 c = search needs
 
 returns : tie.Need-returns
-returns c f e = folded-words f _ e
+returns c = λ f e. folded-words f _ _ (c .folded-word .ensures f) e
 
 pub folded-spec : {M : Type 1} → statement M
-folded-spec =
-    tie.close
-    (tie.spec
-    array-read-found
-    array-read-found-2
-    array-read-t6
-    array-read-t12
-    array-read-t20
-    array-read-t23
-    returns)
+folded-spec = tie.close (tie.spec array-read-folded-word folded-word-requires array-read-t6 array-read-t11 array-read-t14 returns)
