@@ -148,6 +148,13 @@ static inline uint64_t step(const struct machine *m, uint64_t candidates, uint8_
     return live;
 }
 
+/* Whether a candidate meets the byte. */
+static inline int is_met(const struct machine *m, uint64_t candidates, uint8_t b) {
+    for (; candidates; candidates &= candidates - 1)
+        if (meets(m, __builtin_ctzll(candidates), b)) return 1;
+    return 0;
+}
+
 /* Whether some part of the text fits. The scan runs from the end, so that what is live before a byte follows from what is live
  * behind it. It ends where a part begins, or where nothing can be live any more; where nothing is live and one position alone may
  * end a part, it goes on at the next byte that this one meets. */
@@ -155,7 +162,7 @@ static inline int matches(const struct machine *m, const uint8_t *text, size_t n
     if (n == 0) return m->whole;
     if (m->head || m->tail || (m->middle && n > 1)) return 1;
     uint64_t next, candidates = m->ends;
-    if (!m->inner && !step(m, m->start, text[0], &next)) return 0;
+    if (!m->inner && !is_met(m, m->start, text[0])) return 0;
     int door = m->stops && !(m->stops & (m->stops - 1)) ? __builtin_ctzll(m->stops) : POSITIONS;
     size_t i = n - 1;
     while (i > 0) {
@@ -166,6 +173,6 @@ static inline int matches(const struct machine *m, const uint8_t *text, size_t n
         if (!next && door < POSITIONS)
             while (i > 0 && !meets(m, door, text[i])) i--;
     }
-    return (m->start & step(m, candidates, text[0], &next)) != 0;
+    return is_met(m, m->start & candidates, text[0]);
 }
 #endif

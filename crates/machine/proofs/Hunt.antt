@@ -9,15 +9,15 @@ use lib.Count.{trailingZeros}
 use lib.Dec.{T, eqb, ltb}
 use lib.ListN.{length, getD, drop}
 use lib.Seq.{drop-length}
-use borrow.Author.Tests.{ltb-true, ltb-false, lt-ltb, eq-eqb, ne-eqb, eqb-true, not-false}
+use borrow.Author.Tests.{ltb-true, ltb-false, lt-ltb, eq-eqb, ne-eqb, eqb-true, not-true, not-false}
 use Rattle.octets.specs.Bits.{bit}
 use Rattle.octets.specs.Lists.{empty}
-use Rattle.octets.proofs.Bits.{bit-zero, bit-drop, lowest-set, lowest-drop, or-none-left, or-none-right}
+use Rattle.octets.proofs.Bits.{bit-zero, bit-and, bit-drop, lowest-set, lowest-drop, or-none-left, or-none-right}
 use Rattle.octets.proofs.Tests.{T-of, is-true, not-T-of, both, left, right, or-right, or-cases, or-neither}
-use Rattle.machine.specs.Machine.{Machine, Live, live-end, live-on, Starts, starts-none, starts-live, StartsAt, Found, first-mask, last-mask, null-at, null-somewhere, in-set, met, machine-of, Stepped, Only, Shut, LastMet}
+use Rattle.machine.specs.Machine.{Machine, Live, live-end, live-on, Starts, starts-none, starts-live, StartsAt, Found, first-mask, last-mask, null-at, null-somewhere, in-set, met, machine-of, Stepped, SomeMet, Only, Shut, LastMet}
 use Rattle.machine.specs.declared.Shape.{Shape}
 use Rattle.machine.proofs.Places.{drop-at, empty-at}
-use Rattle.machine.proofs.Scan.{Scan, dead, found-hit, found-miss, found-end, found-first-miss, found-none, tested}
+use Rattle.machine.proofs.Scan.{Scan, dead, candidate-live, live-candidate, found-hit, found-miss, found-end, found-first-miss, found-neither, found-none, tested}
 
 -- ---- a mask with one position
 
@@ -69,15 +69,8 @@ module _ (h : Shape) (sets : List (List ℕ)) (before : List ℕ) where
 
   -- ---- a text that no part can begin
 
-  pub shut-start : (b live next : ℕ) → h .inner ≡ 0 → Stepped sets before (h .size) (h .start) b 0 live next → eqb live 0 ≡ true → Shut h sets b
-  shut-start b live next i w q =
-      record {
-        not-inner = i;
-        not-start = λ p t m. not-T-of (sym (bits p) ∙ ap (λ (n : ℕ). bit n p) (eqb-true live 0 q) ∙ bit-zero p) (both (bit (h .start) p && true) (met (h .size) sets b p) (both (bit (h .start) p) true t tt) m);
-      }
-    where
-      bits : (p : ℕ) → bit live p ≡ ((bit (h .start) p && true) && met (h .size) sets b p)
-      bits p = w .kept p ∙ ap (λ (t : Bool). bit (h .start) p && not t && met (h .size) sets b p) (bit-zero p)
+  pub shut-start : (b : ℕ) (r : Bool) → h .inner ≡ 0 → SomeMet sets (h .size) (h .start) b r → not r ≡ true → Shut h sets b
+  shut-start b r i w q = record { not-inner = i; not-start = w .no (not-true r q) }
 
   -- ---- where no position that may end a part meets the byte, nothing gets live
 
@@ -228,16 +221,6 @@ module _ (h : Shape) (sets : List (List ℕ)) (before : List ℕ) where
       read-on z =
           found-miss h sets before text (i + 1) i (s .next) (last-mask h (eqb (i + 1) (length text))) live next refl (s .scan) refl stepped (tested h sets before text i false live) refl (untested some (s .bare) i live (s .inside) z)
 
-      ends-here : i ≤ 0 → Found M text (not (eqb (bitAnd (h .start) live) 0))
-      ends-here z = go (eqb (bitAnd (h .start) live) 0) refl
-        where
-          at-start : first-mask h (eqb i 0) ≡ h .start
-          at-start = ap (first-mask h) (eq-eqb i 0 (omega arith))
-
-          go : (t : Bool) → eqb (bitAnd (h .start) live) 0 ≡ t → Found M text (not t)
-          go true e = found-none h sets before text i next z (read-on (ap (λ (m : ℕ). bitAnd m live) at-start ∙ eqb-true (bitAnd (h .start) live) 0 e))
-          go false e = begins-at (λ q. absurd (true≢false (sym (eq-eqb (bitAnd (h .start) live) 0 (sym (ap (λ (m : ℕ). bitAnd m live) at-start) ∙ q)) ∙ e)))
-
       module _ (up : 0 < i) where
         not-start : first-mask h (eqb i 0) ≡ h .inner
         not-start = ap (first-mask h) (ne-eqb i 0 (λ z. omega arith))
@@ -282,8 +265,46 @@ module _ (h : Shape) (sets : List (List ℕ)) (before : List ℕ) where
                 bare = s .bare;
               }
 
-    pub hunt-last : (candidates i : ℕ) → i ≤ 0 → Hunt h sets before text candidates i → (live next : ℕ) → Stepped sets before (h .size) candidates (getD text 0 0) 0 live next
-        → Found M text (not (eqb (bitAnd (h .start) live) 0))
-    hunt-last candidates i z s live next w =
+    -- the first byte is left
+    module _ (candidates : ℕ) (s : Hunt h sets before text candidates 0) (r : Bool) (w : SomeMet sets (h .size) (bitAnd (h .start) candidates) (getD text 0 0) r) where
+      stop : ℕ
+      stop = last-mask h (eqb 1 (length text))
+
+      stop-is : stop ≡ last-mask h (empty (drop 1 text))
+      unfolding stop
+      stop-is = ap (last-mask h) (sym (empty-at text 1 (s .scan .inside)))
+
+      candidates-are : candidates ≡ bitOr (s .next) stop
+      unfolding stop
+      candidates-are = s .known
+
+      here : drop 0 text ≡ getD text 0 0 ∷ drop 1 text
+      here = drop-at text 0 (s .inside)
+
+      begins-first : (p : ℕ) → T (bit (bitAnd (h .start) candidates) p) → T (met (h .size) sets (getD text 0 0) p) → StartsAt M text 0
+      begins-first p t m =
+          let c : T (bit (h .start) p && bit candidates p) = subst T (bit-and (h .start) candidates p) t in
+          subst⁻¹ (λ (l : List ℕ). Starts M true l) here
+          (starts-live (left (bit (h .start) p) (bit candidates p) c)
+          (candidate-live h sets before (getD text 0 0) (s .scan .live) (s .next) stop (drop 1 text) (s .scan .bits) stop-is p
+          (subst (λ (n : ℕ). T (bit n p)) candidates-are (right (bit (h .start) p) (bit candidates p) c)) m))
+
+      not-first : r ≡ false → Starts M true (getD text 0 0 ∷ drop 1 text) → ⊥
+      not-first e (starts-none u) = not-T-of (no-null (λ z. let l : 0 < length text = s .inside in absurd (omega arith)) (s .bare) true 0 refl (s .inside)) u
+      not-first e (starts-live {p = p} f v) =
+          let c = live-candidate h sets before (getD text 0 0) (s .scan .live) (s .next) stop (drop 1 text) (s .scan .bits) stop-is p v in
+          w .no e p
+          (subst⁻¹ T (bit-and (h .start) candidates p) (both (bit (h .start) p) (bit candidates p) f (subst⁻¹ (λ (n : ℕ). T (bit n p)) candidates-are (c .0)))) (c .1)
+
+      first-byte : Found M text r
+      first-byte = go r refl
+        where
+          go : (t : Bool) → r ≡ t → Found M text t
+          go true e = let y = w .yes e in found-yes 0 (omega arith) (begins-first (y .0) (y .1) (y .2))
+          go false e = found-neither h sets before text (s .next) (s .scan) (λ v. not-first e (subst (λ (l : List ℕ). Starts M true l) here v))
+
+    pub hunt-last : (candidates i : ℕ) → i ≤ 0 → Hunt h sets before text candidates i → (r : Bool) → SomeMet sets (h .size) (bitAnd (h .start) candidates) (getD text 0 0) r
+        → Found M text r
+    hunt-last candidates i z s r w =
         let e : i ≡ 0 = omega arith in
-        ends-here candidates i s live next (subst⁻¹ (λ (k : ℕ). Stepped sets before (h .size) candidates (getD text k 0) 0 live next) e w) z
+        first-byte candidates (subst (λ (k : ℕ). Hunt h sets before text candidates k) e s) r w

@@ -54,36 +54,43 @@ module _ (h : Shape) (sets : List (List ℕ)) (before : List ℕ) where
   live-position (live-end {p = p} {b = b} m z) = met-position p b m
   live-position (live-on {p = p} {b = b} m f v) = met-position p b m
 
-  module _ (b live next stop live′ next′ : ℕ) (l : List ℕ) (s : Scanned live next l) (e : stop ≡ last-mask h (empty l))
-      (r : Stepped sets before (h .size) (bitOr next stop) b 0 live′ next′) where
+  module _ (b live next stop : ℕ) (l : List ℕ) (s : Scanned live next l) (e : stop ≡ last-mask h (empty l)) where
     abbrev meet : ℕ → Bool
     meet p = met (h .size) sets b p
 
-    kept-is : (p : ℕ) → bit live′ p ≡ ((bit next p || bit stop p) && true && meet p)
-    kept-is p =
-        r .kept p ∙ ap (λ (t : Bool). bit (bitOr next stop) p && not t && meet p) (bit-zero p)
-        ∙ ap (λ (t : Bool). t && true && meet p) (bit-or next stop p)
-
-    sound-at : (p : ℕ) → T (bit live′ p) → Live mach p (b ∷ l)
-    sound-at p t =
-        let k : T ((bit next p || bit stop p) && true && meet p) = subst T (kept-is p) t in
-        let m : T (meet p) = right ((bit next p || bit stop p) && true) (meet p) k in
-        or-cases (bit next p) (bit stop p) (left (bit next p || bit stop p) true (left ((bit next p || bit stop p) && true) (meet p) k))
+    -- live before the byte are the candidates that meet it, and no others
+    pub candidate-live : (p : ℕ) → T (bit (bitOr next stop) p) → T (meet p) → Live mach p (b ∷ l)
+    candidate-live p c m =
+        or-cases (bit next p) (bit stop p) (subst T (bit-or next stop p) c)
         (λ u. let q = s .back p u in
         let v : Live mach (q .0) l = s .sound (q .0) (q .1) in
         live-on m (both (ltb (q .0) (h .size)) (bit (getD before (q .0) 0) p) (live-position v) (q .2)) v)
         (λ u. live-end m (subst (λ (n : ℕ). T (bit n p)) e u))
 
-    made : (p : ℕ) → T (meet p) → T (bit next p || bit stop p) → T (bit live′ p)
-    made p m o = subst⁻¹ T (kept-is p) (both ((bit next p || bit stop p) && true) (meet p) (both (bit next p || bit stop p) true o tt) m)
+    pub live-candidate : (p : ℕ) → Live mach p (b ∷ l) → T (bit (bitOr next stop) p) × T (meet p)
+    live-candidate p (live-end m z) = (subst⁻¹ T (bit-or next stop p) (or-right (bit next p) (bit stop p) (subst⁻¹ (λ (n : ℕ). T (bit n p)) e z)), m)
+    live-candidate p (live-on {q = q} m f v) =
+        (subst⁻¹ T (bit-or next stop p) (or-left (bit next p) (bit stop p) (s .forth p q (s .complete q v) (right (ltb q (h .size)) (bit (getD before q 0) p) f))), m)
 
-    complete-at : (p : ℕ) → Live mach p (b ∷ l) → T (bit live′ p)
-    complete-at p (live-end m z) = made p m (or-right (bit next p) (bit stop p) (subst⁻¹ (λ (n : ℕ). T (bit n p)) e z))
-    complete-at p (live-on {q = q} m f v) =
-        made p m (or-left (bit next p) (bit stop p) (s .forth p q (s .complete q v) (right (ltb q (h .size)) (bit (getD before q 0) p) f)))
+    module _ (live′ next′ : ℕ) (r : Stepped sets before (h .size) (bitOr next stop) b 0 live′ next′) where
+      abbrev candidate : ℕ → Bool
+      candidate p = bit (bitOr next stop) p
 
-    scan-more : Scanned live′ next′ (b ∷ l)
-    scan-more = record { sound = sound-at; complete = complete-at; back = r .back; forth = r .forth }
+      kept-is : (p : ℕ) → bit live′ p ≡ (candidate p && true && meet p)
+      kept-is p = r .kept p ∙ ap (λ (t : Bool). candidate p && not t && meet p) (bit-zero p)
+
+      scan-more : Scanned live′ next′ (b ∷ l)
+      scan-more = record { sound = sound-at; complete = complete-at; back = r .back; forth = r .forth }
+        where
+          sound-at : (p : ℕ) → T (bit live′ p) → Live mach p (b ∷ l)
+          sound-at p t =
+              let k : T (candidate p && true && meet p) = subst T (kept-is p) t in
+              candidate-live p (left (candidate p) true (left (candidate p && true) (meet p) k)) (right (candidate p && true) (meet p) k)
+
+          complete-at : (p : ℕ) → Live mach p (b ∷ l) → T (bit live′ p)
+          complete-at p v =
+              let c = live-candidate p v in
+              subst⁻¹ T (kept-is p) (both (candidate p && true) (meet p) (both (candidate p) true (c .0) tt) (c .1))
 
   -- whether a part begins here, as code tests it
   abbrev test : Bool → Bool → ℕ → Bool
@@ -192,8 +199,8 @@ module _ (h : Shape) (sets : List (List ℕ)) (before : List ℕ) (text : List �
     bits-now : Scanned h sets before live′ next′ (drop j text)
     bits-now =
         subst⁻¹ (λ (l : List ℕ). Scanned h sets before live′ next′ l) here
-        (scan-more h sets before (getD text j 0) (s .live) next stop live′ next′ (drop i text) (s .bits)
-        (e ∙ ap (last-mask h) (sym (empty-at text i (s .inside)))) w)
+        (scan-more h sets before (getD text j 0) (s .live) next stop (drop i text) (s .bits)
+        (e ∙ ap (last-mask h) (sym (empty-at text i (s .inside)))) live′ next′ w)
 
     some-left : empty (drop j text) ≡ false
     some-left = ap empty here
@@ -247,6 +254,12 @@ module _ (h : Shape) (sets : List (List ℕ)) (before : List ℕ) (text : List �
 
     pub found-first-miss : t ≡ false → Scan h sets before text (length text) 0 (length text + 1)
     found-first-miss q = scan-end (length text + 1) (sym (ap (λ (b : Bool). pick b (length text) (length text + 1)) (sym f ∙ q)))
+
+  -- none begins behind the first byte, nor before it
+  pub found-neither : (next : ℕ) → Scan h sets before text 1 next (length text + 1) → (StartsAt M text 0 → ⊥) → Found M text false
+  found-neither next s v =
+      let f = from-miss M text 1 0 (length text + 1) refl (s .place) v in
+      record { yes = λ e. absurd (true≢false (sym e)); no = λ e. record { within = f .within; before = λ j. f .before j (omega arith); found = f .found } }
 
   pub found-none : (i next : ℕ) → i ≤ 0 → Scan h sets before text i next (length text + 1) → Found M text false
   found-none i next z s = record { yes = λ e. absurd (true≢false (sym e)); no = λ e. scan-all i next (length text + 1) z s }

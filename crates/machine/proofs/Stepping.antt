@@ -1,6 +1,6 @@
 -- One byte of the scan: the candidates are taken one by one, the lowest first.
 use mathlib.Core.Path.{_≡_, refl, sym, ap, ap₂, _∙_, subst, subst⁻¹}
-use mathlib.Core.Bool.{Bool, true, false, not, _&&_, _||_, or-false, and-true, and-false}
+use mathlib.Core.Bool.{Bool, true, false, not, _&&_, _||_, or-false, and-true, and-false, true≢false}
 use mathlib.Core.List.{List, []}
 use Prim.Native.Nat.{ℕ, _*_, _-_, _%_, _^_, _<_, _≤_}
 use native.Mathlib.Nat.{lt-trans, lt-of-le-of-lt}
@@ -13,8 +13,8 @@ use lib.Pow.{pow-pos}
 use borrow.Author.Tests.{eqb-true, lt-ltb, le-ltb, ltb-true, ltb-false}
 use Rattle.octets.specs.Bits.{bit}
 use Rattle.octets.proofs.Bits.{bit-zero, bit-and, bit-ones, bit-or, bit-add, bit-drop, drop-lt, lowest-set, lowest-drop, bit-below, shl-one}
-use Rattle.octets.proofs.Tests.{T-of, not-T-of, is-true, left, right, or-left, or-right, or-cases}
-use Rattle.machine.specs.Machine.{in-set, met, Stepped}
+use Rattle.octets.proofs.Tests.{T-of, not-T-of, is-true, both, left, right, or-left, or-right, or-cases}
+use Rattle.machine.specs.Machine.{in-set, met, Stepped, SomeMet}
 
 -- ---- the code's test
 
@@ -101,6 +101,9 @@ module _ (sets : List (List ℕ)) (before : List ℕ) (size candidates b : ℕ) 
     step-among : (k : ℕ) → T (bit rest′ k) → T (bit candidates k)
     step-among k t = s .among k (left (bit rest k) (not (eqb k p)) (subst T (taken k) t))
 
+    pub lowest-candidate : T (bit candidates p)
+    lowest-candidate = s .among p (T-of set-at)
+
     -- p was a candidate, and is now no longer left
     module _ (m : Bool) (mp : met size sets b p ≡ m) where
       kept-turn : (k : ℕ) (t : Bool) → eqb k p ≡ t → ((bit candidates k && not (bit rest k) && met size sets b k) || (t && m)) ≡ (bit candidates k && not (bit rest k && not t) && met size sets b k)
@@ -166,3 +169,21 @@ module _ (sets : List (List ℕ)) (before : List ℕ) (size candidates b : ℕ) 
             or-cases (bit live q) (eqb q p) t
             (λ v. or-left (bit next r) (bit (getD before p 0) r) (s .done .forth r q v u))
             (λ v. or-right (bit next r) (bit (getD before p 0) r) (subst (λ (k : ℕ). T (bit (getD before k 0) r)) (eqb→eq q p v) u))
+
+-- ---- whether one of them meets the byte: none of those that were taken does, and so none is live
+
+module _ (sets : List (List ℕ)) (size candidates b : ℕ) where
+  pub met-some : (rest : ℕ) (s : Stepping sets [] size candidates b rest 0 0) (n : rest ≡ 0 → ⊥) (p : ℕ) → p ≡ trailingZeros 64 rest → met size sets b p ≡ true
+      → SomeMet sets size candidates b true
+  met-some rest s n p e m =
+      record { yes = λ q. (p, lowest-candidate sets [] size candidates b rest 0 0 s n p e, T-of m); no = λ q. absurd (true≢false q) }
+
+  pub met-none : (rest : ℕ) → Stepping sets [] size candidates b rest 0 0 → rest ≡ 0 → SomeMet sets size candidates b false
+  met-none rest s e =
+      let all = step-all sets [] size candidates b rest 0 0 s e in
+      record {
+        yes = λ q. absurd (true≢false (sym q));
+        no = λ q p c m.
+            not-T-of (sym (all .kept p ∙ ap (λ (t : Bool). bit candidates p && not t && met size sets b p) (bit-zero p)) ∙ bit-zero p)
+            (both (bit candidates p && true) (met size sets b p) (both (bit candidates p) true c tt) m);
+      }

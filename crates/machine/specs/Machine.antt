@@ -82,6 +82,11 @@ pub record Stepped (sets : List (List ℕ)) (before : List ℕ) (size candidates
   pub back : (p : ℕ) → T (bit next p) → (q : ℕ) × T (bit live q) × T (bit (getD before q 0) p)
   pub forth : (p q : ℕ) → T (bit live q) → T (bit (getD before q 0) p) → T (bit next p)
 
+-- whether some candidate meets the byte
+pub record SomeMet (sets : List (List ℕ)) (size candidates b : ℕ) (r : Bool) : Type 0 where
+  pub yes : r ≡ true → (p : ℕ) × T (bit candidates p) × T (met size sets b p)
+  pub no : r ≡ false → (p : ℕ) → T (bit candidates p) → T (met size sets b p) → ⊥
+
 -- ---- what a test need not look at
 
 -- the empty part fits somewhere in a text of n bytes that is not empty

@@ -7,7 +7,7 @@ ghost use lib.Bits.{bitAnd};
 ghost use lib.Dec.{eqb};
 ghost use lib.ListN.{getD, length};
 ghost use Rattle.octets.specs.Lists.{pick};
-ghost use Rattle.machine.specs.Machine.{Stepped, Leftmost, Found, Only, Shut, LastMet, first-mask, last-mask, null-at, null-somewhere, in-set, machine-of};
+ghost use Rattle.machine.specs.Machine.{Stepped, SomeMet, Leftmost, Found, Only, Shut, LastMet, first-mask, last-mask, null-at, null-somewhere, in-set, machine-of};
 
 // Which positions may begin a part, at the text's start or elsewhere; which may end one, at the text's end or elsewhere; and
 // whether the empty part fits: as the whole text, at its start, at its end, or between.
@@ -56,6 +56,22 @@ fn step(sets: &[[u64; 4]; 60], before: &[u64; 60], size: usize, candidates: u64,
         }
     }
     Front { live, next }
+}
+
+// Whether some candidate meets the byte b.
+fn is_met(sets: &[[u64; 4]; 60], size: usize, candidates: u64, b: u8) -> bool
+    requires { ⌜ size ≤ 60 ⌝ }
+    ensures { λ r. ⌜ SomeMet (now (sets .entry)) size candidates b r ⌝ }
+{
+    let mut left = candidates & ((1 << size) - 1);
+    while left != 0 {
+        let p = u64::trailing_zeros(left) as usize;
+        if has(sets, p, b) {
+            return true;
+        }
+        left = left & (left - 1);
+    }
+    false
 }
 
 fn last_of(h: Shape, end: bool) -> u64
@@ -147,15 +163,14 @@ fn empty_somewhere(h: Shape, n: usize) -> bool
 
 // Whether a text that begins with the byte b has no part but an empty one: another could begin at the text's start alone, and b is met
 // by no position that may begin it.
-fn shut(h: Shape, sets: &[[u64; 4]; 60], before: &[u64; 60], b: u8) -> bool
+fn shut(h: Shape, sets: &[[u64; 4]; 60], b: u8) -> bool
     requires { ⌜ h .size ≤ 60 ⌝ }
     ensures { λ r. ⌜ (r ≡ true → Shut h (now (sets .entry)) b) ⌝ }
 {
     if h.inner != 0 {
         return false;
     }
-    let f = step(sets, before, h.size, h.start, b);
-    f.live == 0
+    !is_met(sets, h.size, h.start, b)
 }
 
 // The only position of a mask; 60 if it has none or several.
@@ -199,7 +214,7 @@ pub fn found(h: Shape, sets: &[[u64; 4]; 60], before: &[u64; 60], text: &[u8]) -
     if empty_somewhere(h, n) {
         return true;
     }
-    if shut(h, sets, before, text[0]) {
+    if shut(h, sets, text[0]) {
         return false;
     }
     let door = only(h.stops);
@@ -221,6 +236,5 @@ pub fn found(h: Shape, sets: &[[u64; 4]; 60], before: &[u64; 60], text: &[u8]) -
             }
         }
     }
-    let f = step(sets, before, h.size, candidates, text[0]);
-    h.start & f.live != 0
+    is_met(sets, h.size, h.start & candidates, text[0])
 }

@@ -94,16 +94,16 @@ loop-again-3 c =
     let inside = c .before .before .before .before .before .before .before .before .before .before in
     hunt-next _ _ _ _ _ _ (inside .before .loop .inv) _ _ (stepped .step .ensures) (inside .loop-test .taken) (c .before .before .before .before .before .if4 .left)
 
-shared-slice-read-step-2 : tie.Need-shared-slice-read-step-2 Inv-loop μ-loop
-shared-slice-read-step-2 c = search (needs, c .before .before .loop .inv .inside)
+shared-slice-read-is-met : tie.Need-shared-slice-read-is-met Inv-loop μ-loop
+shared-slice-read-is-met c = search (needs, c .before .before .before .loop .inv .inside)
 
-step-requires-2 : tie.Need-step-requires-2 Inv-loop μ-loop
-step-requires-2 c κs = search needs
+is-met-requires : tie.Need-is-met-requires Inv-loop μ-loop
+is-met-requires c κs = search needs
 
 returns-6 : tie.Need-returns-6 Inv-loop μ-loop
 returns-6 c =
-    let inside = c .before .before .before .before in
-    hunt-last _ _ _ _ _ _ (inside .loop-test .left) (inside .before .loop .inv) _ _ (c .before .before .step2 .ensures)
+    let inside = c .before .before .before in
+    hunt-last _ _ _ _ _ _ (inside .loop-test .left) (inside .before .loop .inv) _ (c .is-met .ensures)
 
 pub found-spec : {M : Type 1} → statement M
 found-spec =
@@ -132,6 +132,6 @@ found-spec =
     loop-again-2
     loop-less-3
     loop-again-3
-    shared-slice-read-step-2
-    step-requires-2
+    shared-slice-read-is-met
+    is-met-requires
     returns-6)

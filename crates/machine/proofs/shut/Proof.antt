@@ -1,4 +1,5 @@
 use Rattle.machine.proofs.Hunt.{not-shut, shut-start}
+use mathlib.Core.List.{[]}
 use borrow.Author.Needs.{needs}
 use Rattle.machine.proofs.shut.Statement.{statement}
 use Rattle.machine.proofs.shut.Tie as tie
@@ -6,11 +7,11 @@ use Rattle.machine.proofs.shut.Tie as tie
 returns : tie.Need-returns
 returns c = not-shut _ _ _
 
-step-requires : tie.Need-step-requires
-step-requires c κs = search needs
+is-met-requires : tie.Need-is-met-requires
+is-met-requires c κs = search needs
 
 returns-2 : tie.Need-returns-2
-returns-2 c = shut-start _ _ _ _ _ _ (c .before .before .if1 .left) (c .before .step .ensures)
+returns-2 c = shut-start _ _ [] _ _ (c .before .if1 .left) (c .is-met .ensures)
 
 pub shut-spec : {M : Type 1} → statement M
-shut-spec = tie.close (tie.spec returns step-requires returns-2)
+shut-spec = tie.close (tie.spec returns is-met-requires returns-2)
