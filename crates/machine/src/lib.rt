@@ -1,6 +1,6 @@
 // The matcher: a machine of at most 60 positions, a bit for each. It knows no edition of patterns.
 ghost use mathlib.Core.Path.{_≡_};
-ghost use mathlib.Core.Bool.{true, not, _||_};
+ghost use mathlib.Core.Bool.{true, false, not, _||_};
 ghost use mathlib.Core.List.{[]};
 ghost use Prim.Native.Nat.{_+_, _≤_, _<_};
 ghost use lib.Bits.{bitAnd};
@@ -201,25 +201,15 @@ fn last_met(sets: &[[u64; 4]; 60], p: usize, text: &[u8], from: usize) -> usize
     0
 }
 
-// Whether some part of the text fits: the same scan, which ends at the first place that it finds, or where nothing can be live any more.
-// Where nothing is live and one position alone may end a part, it goes on at the next byte that this one meets.
-pub fn found(h: Shape, sets: &[[u64; 4]; 60], before: &[u64; 60], text: &[u8]) -> bool
-    requires { ⌜ h .size ≤ 60 ⌝ }
+// Whether some part of a text that is not empty fits, where no empty one does: the same scan, which ends at the first place that it
+// finds, or where nothing can be live any more. Where nothing is live and one position alone may end a part, the door, it goes on at
+// the next byte that this one meets.
+fn scan_down(h: Shape, sets: &[[u64; 4]; 60], before: &[u64; 60], text: &[u8], door: usize) -> bool
+    requires { ⌜ (h .size ≤ 60) × (length (now text) ≡ 0 → ⊥) × (null-somewhere h (length (now text)) ≡ false) × Only (h .stops) door ⌝ }
     ensures { λ r. ⌜ Found (machine-of h (now (sets .entry)) (now (before .entry))) (now (text .entry)) r ⌝ }
 {
-    let n = text.len();
-    if n == 0 {
-        return h.whole;
-    }
-    if empty_somewhere(h, n) {
-        return true;
-    }
-    if shut(h, sets, text[0]) {
-        return false;
-    }
-    let door = only(h.stops);
     let mut candidates = h.ends;
-    let mut i = n - 1;
+    let mut i = text.len() - 1;
     while 0 < i {
         let f = step(sets, before, h.size, candidates, text[i]);
         if h.inner & f.live != 0 {
@@ -237,4 +227,26 @@ pub fn found(h: Shape, sets: &[[u64; 4]; 60], before: &[u64; 60], text: &[u8]) -
         }
     }
     is_met(sets, h.size, h.start & candidates, text[0])
+}
+
+// Whether some part of the text fits.
+pub fn found(h: Shape, sets: &[[u64; 4]; 60], before: &[u64; 60], text: &[u8]) -> bool
+    requires { ⌜ h .size ≤ 60 ⌝ }
+    ensures { λ r. ⌜ Found (machine-of h (now (sets .entry)) (now (before .entry))) (now (text .entry)) r ⌝ }
+{
+    let n = text.len();
+    if n == 0 {
+        return h.whole;
+    }
+    if empty_somewhere(h, n) {
+        return true;
+    }
+    if shut(h, sets, text[0]) {
+        return false;
+    }
+    // Two calls: the compiler makes two scans of them, and the one for a part that ends with the text has no door to try.
+    if h.stops == 0 {
+        return scan_down(h, sets, before, text, 60);
+    }
+    scan_down(h, sets, before, text, only(h.stops))
 }

@@ -1,137 +1,64 @@
 use denote.Ref.{now}
-use Rattle.machine.proofs.Hunt.{Hunt, found-empty, found-null, found-shut, hunt-first, hunt-hit, hunt-next, hunt-dead, hunt-skip, hunt-last}
-use native.Mathlib.Omega.{arith}
+use Rattle.machine.proofs.Hunt.{found-empty, found-null, found-shut, only-none}
+use mathlib.Core.Path.{sym, _∙_}
 use borrow.Author.Needs.{needs}
 use Rattle.machine.proofs.found.Statement.{statement}
 use Rattle.machine.proofs.found.Tie as tie
 
-abbrev Inv-loop : tie.InvT-loop
-Inv-loop h sets before text n door candidates₀ i₀ candidates i = Hunt h sets before text candidates i
-
-abbrev μ-loop : tie.MeasureT-loop
-μ-loop h sets before text n door candidates₀ i₀ candidates i = i
-
-returns : tie.Need-returns Inv-loop μ-loop
+returns : tie.Need-returns
 returns c = found-empty _ _ (now (c .before .before .args .before)) _ (c .if1 .taken)
 
-empty-somewhere-requires : tie.Need-empty-somewhere-requires Inv-loop μ-loop
+empty-somewhere-requires : tie.Need-empty-somewhere-requires
 empty-somewhere-requires c κs = search needs
 
-returns-2 : tie.Need-returns-2 Inv-loop μ-loop
+returns-2 : tie.Need-returns-2
 returns-2 c =
     found-null _ _ (now (c .before .before .before .before .args .before)) _ (c .before .before .if1 .left) _ (c .before .empty-somewhere .ensures) (c .if2 .taken)
 
-shared-slice-read-shut : tie.Need-shared-slice-read-shut Inv-loop μ-loop
+shared-slice-read-shut : tie.Need-shared-slice-read-shut
 shared-slice-read-shut c = search needs
 
-shut-requires : tie.Need-shut-requires Inv-loop μ-loop
+shut-requires : tie.Need-shut-requires
 shut-requires c κs = search needs
 
-returns-3 : tie.Need-returns-3 Inv-loop μ-loop
+returns-3 : tie.Need-returns-3
 returns-3 c =
     let filled = c .before .before .before .before .before in
     found-shut _ _ (now (filled .before .before .args .before)) _ (filled .if1 .left) _ (c .before .before .before .before .empty-somewhere .ensures) (c .before .before .before .if2 .left) (c .before .shut .ensures (c .if3 .taken))
 
-only-requires : tie.Need-only-requires Inv-loop μ-loop
+scan-down-requires : tie.Need-scan-down-requires
+scan-down-requires c κs =
+    let bare = c .before .before .before .before .before in
+    let filled = bare .before .before in
+    (filled .before .before .pre, filled .if1 .left, sym (bare .before .empty-somewhere .ensures) ∙ bare .if2 .left, only-none _)
+
+returns-4 : tie.Need-returns-4
+returns-4 c = c .scan-down .ensures
+
+only-requires : tie.Need-only-requires
 only-requires c κs = search needs
 
-sub-i : tie.Need-sub-i Inv-loop μ-loop
-sub-i c = search needs
+scan-down-requires-2 : tie.Need-scan-down-requires-2
+scan-down-requires-2 c κs =
+    let bare = c .before .before .before .before .before .before in
+    let filled = bare .before .before in
+    (filled .before .before .pre, filled .if1 .left, sym (bare .before .empty-somewhere .ensures) ∙ bare .if2 .left, c .only .ensures)
 
-loop-holds : tie.Need-loop-holds Inv-loop μ-loop
-loop-holds c =
-    let filled = c .before .before .before .before .before .before in
-    hunt-first _ _ (now (filled .before .before .args .before)) _ (filled .if1 .left) _ (c .before .before .before .before .before .empty-somewhere .ensures) (c .before .before .before .before .if2 .left)
-
-shared-slice-read-step : tie.Need-shared-slice-read-step Inv-loop μ-loop
-shared-slice-read-step c = search (needs, c .before .before .loop .inv .inside)
-
-step-requires : tie.Need-step-requires Inv-loop μ-loop
-step-requires c κs = search needs
-
-returns-4 : tie.Need-returns-4 Inv-loop μ-loop
-returns-4 c =
-    let stepped = c .before .before .before in
-    let inside = c .before .before .before .before .before in
-    hunt-hit _ _ _ _ _ _ (inside .before .loop .inv) _ _ (stepped .step .ensures) (inside .loop-test .taken) (c .if4 .taken)
-
-returns-5 : tie.Need-returns-5 Inv-loop μ-loop
-returns-5 c =
-    let stepped = c .before .before .before .before .before .before in
-    let inside = c .before .before .before .before .before .before .before .before in
-    hunt-dead _ _ _ _ _ _ (inside .before .loop .inv) _ _ (stepped .step .ensures) (inside .loop-test .taken) (c .before .before .before .if4 .left) (c .if5 .taken)
-
-sub-i-2 : tie.Need-sub-i-2 Inv-loop μ-loop
-sub-i-2 c = search needs
-
-last-met-requires : tie.Need-last-met-requires Inv-loop μ-loop
-last-met-requires c κs = search (needs, c .before .before .before .before .before .before .before .before .before .before .before .before .loop .inv .inside)
-
-loop-less : tie.Need-loop-less Inv-loop μ-loop
-loop-less c = omega (arith, c .last-met .ensures .within, c .before .before .before .before .before .before .before .before .before .before .before .before .loop-test .taken)
-
-loop-again : tie.Need-loop-again Inv-loop μ-loop
-loop-again c =
-    let stepped = c .before .before .before .before .before .before .before .before .before .before in
-    let inside = c .before .before .before .before .before .before .before .before .before .before .before .before in
-    hunt-skip _ _ _ _ _ _ (inside .before .loop .inv) _ _ (stepped .step .ensures) (inside .loop-test .taken) (c .before .before .before .before .before .before .before .if4 .left) (c .before .before .if6 .taken) _ _ (inside .before .before .only .ensures) (c .before .if7 .taken) (c .last-met .ensures)
-
-loop-less-2 : tie.Need-loop-less-2 Inv-loop μ-loop
-loop-less-2 c = search needs
-
-loop-again-2 : tie.Need-loop-again-2 Inv-loop μ-loop
-loop-again-2 c =
-    let stepped = c .before .before .before .before .before .before .before .before .before in
-    let inside = c .before .before .before .before .before .before .before .before .before .before .before in
-    hunt-next _ _ _ _ _ _ (inside .before .loop .inv) _ _ (stepped .step .ensures) (inside .loop-test .taken) (c .before .before .before .before .before .before .if4 .left)
-
-loop-less-3 : tie.Need-loop-less-3 Inv-loop μ-loop
-loop-less-3 c = search needs
-
-loop-again-3 : tie.Need-loop-again-3 Inv-loop μ-loop
-loop-again-3 c =
-    let stepped = c .before .before .before .before .before .before .before .before in
-    let inside = c .before .before .before .before .before .before .before .before .before .before in
-    hunt-next _ _ _ _ _ _ (inside .before .loop .inv) _ _ (stepped .step .ensures) (inside .loop-test .taken) (c .before .before .before .before .before .if4 .left)
-
-shared-slice-read-is-met : tie.Need-shared-slice-read-is-met Inv-loop μ-loop
-shared-slice-read-is-met c = search (needs, c .before .before .before .loop .inv .inside)
-
-is-met-requires : tie.Need-is-met-requires Inv-loop μ-loop
-is-met-requires c κs = search needs
-
-returns-6 : tie.Need-returns-6 Inv-loop μ-loop
-returns-6 c =
-    let inside = c .before .before .before in
-    hunt-last _ _ _ _ _ _ (inside .loop-test .left) (inside .before .loop .inv) _ (c .is-met .ensures)
+returns-5 : tie.Need-returns-5
+returns-5 c = c .scan-down2 .ensures
 
 pub found-spec : {M : Type 1} → statement M
 found-spec =
     tie.close
     (tie.spec
-    Inv-loop
-    μ-loop
     returns
     empty-somewhere-requires
     returns-2
     shared-slice-read-shut
     shut-requires
     returns-3
-    only-requires
-    sub-i
-    loop-holds
-    shared-slice-read-step
-    step-requires
+    scan-down-requires
     returns-4
-    returns-5
-    sub-i-2
-    last-met-requires
-    loop-less
-    loop-again
-    loop-less-2
-    loop-again-2
-    loop-less-3
-    loop-again-3
-    shared-slice-read-is-met
-    is-met-requires
-    returns-6)
+    only-requires
+    scan-down-requires-2
+    returns-5)
