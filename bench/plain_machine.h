@@ -155,15 +155,11 @@ static inline int is_met(const struct machine *m, uint64_t candidates, uint8_t b
     return 0;
 }
 
-/* Whether some part of the text fits. The scan runs from the end, so that what is live before a byte follows from what is live
- * behind it. It ends where a part begins, or where nothing can be live any more; where nothing is live and one position alone may
- * end a part, it goes on at the next byte that this one meets. */
-static inline int matches(const struct machine *m, const uint8_t *text, size_t n) {
-    if (n == 0) return m->whole;
-    if (m->head || m->tail || (m->middle && n > 1)) return 1;
+/* Whether some part of a text that is not empty fits, where no empty one does. The scan runs from the end, so that what is live before
+ * a byte follows from what is live behind it. It ends where a part begins, or where nothing can be live any more; where nothing is
+ * live and one position alone may end a part, the door, it goes on at the next byte that this one meets. */
+static inline int scan_down(const struct machine *m, const uint8_t *text, size_t n, int door) {
     uint64_t next, candidates = m->ends;
-    if (!m->inner && !is_met(m, m->start, text[0])) return 0;
-    int door = m->stops && !(m->stops & (m->stops - 1)) ? __builtin_ctzll(m->stops) : POSITIONS;
     size_t i = n - 1;
     while (i > 0) {
         if (m->inner & step(m, candidates, text[i], &next)) return 1;
@@ -174,5 +170,14 @@ static inline int matches(const struct machine *m, const uint8_t *text, size_t n
             while (i > 0 && !meets(m, door, text[i])) i--;
     }
     return is_met(m, m->start & candidates, text[0]);
+}
+
+/* Whether some part of the text fits. */
+static inline int matches(const struct machine *m, const uint8_t *text, size_t n) {
+    if (n == 0) return m->whole;
+    if (m->head || m->tail || (m->middle && n > 1)) return 1;
+    if (!m->inner && !is_met(m, m->start, text[0])) return 0;
+    if (!m->stops) return scan_down(m, text, n, POSITIONS);
+    return scan_down(m, text, n, m->stops & (m->stops - 1) ? POSITIONS : __builtin_ctzll(m->stops));
 }
 #endif

@@ -9,6 +9,7 @@ ghost use Rattle.pattern.specs.Answers.{meets-text};
 ghost use Rattle.pattern.specs.Prepared.{Ready};
 ghost use Rattle.pattern_lines.specs.Lines.{LinesTo, matched, matching, before-lf};
 use machine::Shape;
+use pattern::first_match;
 use pattern::is_loaded;
 use pattern::load;
 use pattern::test;
@@ -57,7 +58,8 @@ fn count(
     n
 }
 
-// Whether a string is a pattern that matches the text, read into the lent places.
+// Whether a string is a pattern that matches the text, read into the lent places: by where its first part begins, so that C reaches
+// that, too.
 fn read_and_test(
     p: &[u8],
     fold: bool,
@@ -70,7 +72,7 @@ fn read_and_test(
     ensures { λ r. ⌜ (length (now (sets .exit)) ≡ 60) × (length (now (before .exit)) ≡ 60) ⌝ }
 {
     let h = load(p, fold, sets, before);
-    test(h, sets, before, p, fold, text)
+    first_match(h, sets, before, p, fold, text) <= text.len()
 }
 
 // The lines that are patterns and match the text.
