@@ -173,13 +173,11 @@ fn shut(h: Shape, sets: &[[u64; 4]; 60], b: u8) -> bool
     !is_met(sets, h.size, h.start, b)
 }
 
-// The only position of a mask; 60 if it has none or several.
+// The only position of a mask that has one; 60 if it has several.
 fn only(mask: u64) -> usize
+    requires { ⌜ (mask ≡ 0 → ⊥) ⌝ }
     ensures { λ r. ⌜ Only mask r ⌝ }
 {
-    if mask == 0 {
-        return 60;
-    }
     if mask & (mask - 1) != 0 {
         return 60;
     }

@@ -81,7 +81,7 @@ module _ (at n : ℕ) (l : Low at n) where
 pow-low : (at : ℕ) → Low (at + 1) (2 ^ at)
 pow-low at = record { low = λ k h. bit-pow at k ∙ ne-eqb k at (λ z. omega arith) }
 
--- the run of `mark`, and what may come before
+-- the run of `mark`; and a mask with one position more where t says so, as its lead and what may come before
 module _ (at run : ℕ) (l : Low at run) where
   run-low : (t : Bool) → Low (at + 1) (pick t (bitOr run (2 ^ at)) (2 ^ at))
   run-low true = with-low at run l
@@ -95,17 +95,17 @@ module _ (at run : ℕ) (l : Low at run) where
   run-at true = with-at at run l
   run-at false = bit-pow at at ∙ eq-eqb at at refl
 
-  before-low : (t : Bool) → Low (at + 1) (pick t (bitOr run (2 ^ at)) run)
-  before-low true = with-low at run l
-  before-low false = same-low at run l
+  more-low : (t : Bool) → Low (at + 1) (pick t (bitOr run (2 ^ at)) run)
+  more-low true = with-low at run l
+  more-low false = same-low at run l
 
-  before-below : (t : Bool) (k : ℕ) → k < at → bit (pick t (bitOr run (2 ^ at)) run) k ≡ bit run k
-  before-below true k h = with-below at run l k h
-  before-below false k h = refl
+  more-below : (t : Bool) (k : ℕ) → k < at → bit (pick t (bitOr run (2 ^ at)) run) k ≡ bit run k
+  more-below true k h = with-below at run l k h
+  more-below false k h = refl
 
-  before-is : (t : Bool) → bit (pick t (bitOr run (2 ^ at)) run) at ≡ t
-  before-is true = with-at at run l
-  before-is false = l .low at (omega arith)
+  more-at : (t : Bool) → bit (pick t (bitOr run (2 ^ at)) run) at ≡ t
+  more-at true = with-at at run l
+  more-at false = l .low at (omega arith)
 
 -- ---- the masks of the elements from `at` on
 
@@ -144,27 +144,27 @@ leading m [] l = (λ k h. refl, go)
     go zero = ap (bit (m .lead)) (add-zero (m .at)) ∙ sym (and-true (may-lead m))
     go (suc p) = l .low (m .at + suc p) (omega arith) ∙ sym (and-false (may-lead m))
 leading m (e ∷ es) l =
-    let ih = leading (mark m (starred e)) es (before-low (m .at + 1) (m .lead) l (starred e && may-lead m)) in
-    (λ k h. ih .0 k (omega arith) ∙ before-below (m .at + 1) (m .lead) l (starred e && may-lead m) k (omega arith), λ p. go (ih .0) (ih .1) p)
+    let ih = leading (mark m (starred e)) es (more-low (m .at + 1) (m .lead) l (starred e && may-lead m)) in
+    (λ k h. ih .0 k (omega arith) ∙ more-below (m .at + 1) (m .lead) l (starred e && may-lead m) k (omega arith), λ p. go (ih .0) (ih .1) p)
   where
     go : ((k : ℕ) → k < m .at + 1 → bit (marks m (e ∷ es) .lead) k ≡ bit (mark m (starred e) .lead) k)
         → ((p : ℕ) → bit (marks m (e ∷ es) .lead) (m .at + 1 + p) ≡ (may-lead (mark m (starred e)) && opens es p)) → (p : ℕ)
         → bit (marks m (e ∷ es) .lead) (m .at + p) ≡ (may-lead m && opens (e ∷ es) p)
     go low high zero =
         ap (bit (marks m (e ∷ es) .lead)) (add-zero (m .at)) ∙ low (m .at) (omega arith)
-        ∙ before-below (m .at + 1) (m .lead) l (starred e && may-lead m) (m .at) (omega arith) ∙ sym (and-true (may-lead m))
+        ∙ more-below (m .at + 1) (m .lead) l (starred e && may-lead m) (m .at) (omega arith) ∙ sym (and-true (may-lead m))
     go low high (suc p) =
         ap (bit (marks m (e ∷ es) .lead)) (up (m .at) p) ∙ high p
-        ∙ ap (λ (t : Bool). t && opens es p) (before-is (m .at + 1) (m .lead) l (starred e && may-lead m) ∙ and-comm (starred e) (may-lead m))
+        ∙ ap (λ (t : Bool). t && opens es p) (more-at (m .at + 1) (m .lead) l (starred e && may-lead m) ∙ and-comm (starred e) (may-lead m))
         ∙ and-assoc (may-lead m) (starred e) (opens es p)
 
 before-all : (m : Marks) (es : List Elem) (q : ℕ) → q < length es → Low (m .at) (m .run) → Before m es q
 before-all m [] q h l = absurd (omega arith)
-before-all m (e ∷ es) zero h l = (λ k g. before-below (m .at) (m .run) l (starred e) k g ∙ sym (and-true (bit (m .run) k)), go)
+before-all m (e ∷ es) zero h l = (λ k g. more-below (m .at) (m .run) l (starred e) k g ∙ sym (and-true (bit (m .run) k)), go)
   where
     go : (p : ℕ) → bit (before-at m (starred e)) (m .at + p) ≡ follows (e ∷ es) p zero
-    go zero = ap (bit (before-at m (starred e))) (add-zero (m .at)) ∙ before-is (m .at) (m .run) l (starred e)
-    go (suc p) = before-low (m .at) (m .run) l (starred e) .low (m .at + suc p) (omega arith)
+    go zero = ap (bit (before-at m (starred e))) (add-zero (m .at)) ∙ more-at (m .at) (m .run) l (starred e)
+    go (suc p) = more-low (m .at) (m .run) l (starred e) .low (m .at + suc p) (omega arith)
 before-all m (e ∷ es) (suc q) h l =
     let ih = before-all (mark m (starred e)) es q (omega arith) (run-low (m .at) (m .run) l (starred e)) in (
       λ k g.

@@ -5,20 +5,17 @@ use borrow.Author.Needs.{needs}
 use Rattle.machine.proofs.only.Statement.{statement}
 use Rattle.machine.proofs.only.Tie as tie
 
+sub-if1 : tie.Need-sub-if1
+sub-if1 c = search needs
+
 returns : tie.Need-returns
 returns c = only-none _
 
-sub-if2 : tie.Need-sub-if2
-sub-if2 c = search needs
+cast-result : tie.Need-cast-result
+cast-result c = omega (arith, trailing-le 64 (c .before .args .mask))
 
 returns-2 : tie.Need-returns-2
-returns-2 c = only-none _
-
-cast-result : tie.Need-cast-result
-cast-result c = omega (arith, trailing-le 64 (c .before .before .args .mask))
-
-returns-3 : tie.Need-returns-3
-returns-3 c = search only-one
+returns-2 c = search only-one
 
 pub only-spec : {M : Type 1} → statement M
-only-spec = tie.close (tie.spec returns sub-if2 returns-2 cast-result returns-3)
+only-spec = tie.close (tie.spec sub-if1 returns cast-result returns-2)
