@@ -14,10 +14,10 @@ use Rattle.octets.specs.Bits.{bit}
 use Rattle.octets.specs.Lists.{empty}
 use Rattle.octets.proofs.Bits.{bit-zero, bit-and, bit-drop, lowest-set, lowest-drop, or-none-left, or-none-right}
 use Rattle.octets.proofs.Tests.{T-of, is-true, not-T-of, both, left, right, or-right, or-cases, or-neither}
-use Rattle.machine.specs.Machine.{Machine, Live, live-end, live-on, Starts, starts-none, starts-live, StartsAt, Found, first-mask, last-mask, null-at, null-somewhere, in-set, met, machine-of, Stepped, SomeMet, Only, Shut, LastMet}
+use Rattle.machine.specs.Machine.{Machine, Live, live-end, live-on, Starts, starts-none, starts-live, StartsAt, Found, first-mask, last-mask, null-at, null-somewhere, in-set, machine-of, Below, Closed, Stepped, SomeMet, Only, Shut, LastMet}
 use Rattle.machine.specs.declared.Shape.{Shape}
 use Rattle.machine.proofs.Places.{drop-at, empty-at}
-use Rattle.machine.proofs.Scan.{Scan, dead, candidate-live, live-candidate, found-hit, found-miss, found-end, found-first-miss, found-neither, found-none, tested}
+use Rattle.machine.proofs.Scan.{Scan, dead, met-in, in-met, scan-below, candidate-live, live-candidate, found-hit, found-miss, found-end, found-first-miss, found-neither, found-none, tested}
 
 -- ---- a mask with one position
 
@@ -55,6 +55,12 @@ module _ (set text : List ℕ) (from : ℕ) where
 pub not-shut : (h : Shape) (sets : List (List ℕ)) (b : ℕ) → false ≡ true → Shut h sets b
 not-shut h sets b e = absurd (true≢false (sym e))
 
+pub start-below : (h : Shape) (before : List ℕ) → Closed h before → Below 60 (h .start)
+start-below h before c k t =
+    let few : h .size ≤ 60 = c .few in
+    let l : k < h .size = c .starts k t in
+    omega arith
+
 -- the bytes above i are read, no part begins there, and these are the candidates for the byte at i
 pub record Hunt (h : Shape) (sets : List (List ℕ)) (before text : List ℕ) (candidates i : ℕ) : Type 0 where
   pub next : ℕ
@@ -69,12 +75,12 @@ module _ (h : Shape) (sets : List (List ℕ)) (before : List ℕ) where
 
   -- ---- a text that no part can begin
 
-  pub shut-start : (b : ℕ) (r : Bool) → h .inner ≡ 0 → SomeMet sets (h .size) (h .start) b r → not r ≡ true → Shut h sets b
+  pub shut-start : (b : ℕ) (r : Bool) → h .inner ≡ 0 → SomeMet sets (h .start) b r → not r ≡ true → Shut h sets b
   shut-start b r i w q = record { not-inner = i; not-start = w .no (not-true r q) }
 
   -- ---- where no position that may end a part meets the byte, nothing gets live
 
-  idle : (b : ℕ) → ((k : ℕ) → T (bit (h .stops) k) → met (h .size) sets b k ≡ false) → Stepped sets before (h .size) (bitOr 0 (h .stops)) b 0 0 0
+  idle : (b : ℕ) → ((k : ℕ) → T (bit (h .stops) k) → in-set (getD sets k []) b ≡ false) → Stepped sets before (bitOr 0 (h .stops)) b 0 0 0
   idle b unmet =
       record {
         kept = λ k. bit-zero k ∙ sym (none-at k (bit (h .stops) k) refl);
@@ -82,15 +88,15 @@ module _ (h : Shape) (sets : List (List ℕ)) (before : List ℕ) where
         forth = λ p q t u. absurd (not-T-of (bit-zero q) t);
       }
     where
-      none-at : (k : ℕ) (t : Bool) → bit (h .stops) k ≡ t → (bit (bitOr 0 (h .stops)) k && not (bit 0 k) && met (h .size) sets b k) ≡ false
+      none-at : (k : ℕ) (t : Bool) → bit (h .stops) k ≡ t → (bit (bitOr 0 (h .stops)) k && not (bit 0 k) && in-set (getD sets k []) b) ≡ false
       none-at k true e = ap₂ (λ (a : Bool) (m : Bool). a && not (bit 0 k) && m) e (unmet k (T-of e)) ∙ and-false (true && not (bit 0 k))
-      none-at k false e = ap (λ (a : Bool). a && not (bit 0 k) && met (h .size) sets b k) e
+      none-at k false e = ap (λ (a : Bool). a && not (bit 0 k) && in-set (getD sets k []) b) e
 
   module _ (text : List ℕ) where
     -- ---- the empty part
 
-    pub found-empty : length text ≡ 0 → Found M text (h .whole)
-    found-empty z = go (h .whole) refl
+    pub found-empty : Closed h before → length text ≡ 0 → Found M text (h .whole)
+    found-empty c z = go (h .whole) refl
       where
         tested-is : tested h sets before text (length text) true 0 ≡ h .whole
         tested-is =
@@ -98,8 +104,8 @@ module _ (h : Shape) (sets : List (List ℕ)) (before : List ℕ) where
             ∙ or-false (h .whole)
 
         go : (t : Bool) → h .whole ≡ t → Found M text t
-        go true e = found-end h sets before text (tested h sets before text (length text) true 0) refl (tested-is ∙ e)
-        go false e = found-none h sets before text (length text) 0 (omega arith) (found-first-miss h sets before text (tested h sets before text (length text) true 0) refl (tested-is ∙ e))
+        go true e = found-end h sets before text c (tested h sets before text (length text) true 0) refl (tested-is ∙ e)
+        go false e = found-none h sets before text (length text) 0 (omega arith) (found-first-miss h sets before text c (tested h sets before text (length text) true 0) refl (tested-is ∙ e))
 
     found-yes : (j : ℕ) → j ≤ length text → StartsAt M text j → Found M text true
     found-yes j l s = record { yes = λ e. (j, l, s); no = λ e. absurd (true≢false e) }
@@ -144,8 +150,8 @@ module _ (h : Shape) (sets : List (List ℕ)) (before : List ℕ) where
         without s = record { yes = λ e. absurd (true≢false (sym e)); no = λ e. record { within = omega arith; before = λ j l m v. at j m (ltb j (length text)) refl v; found = λ l. absurd (omega arith) } }
           where
             first-byte : (p : ℕ) (l : List ℕ) → T (bit (h .start) p) → Live M p (getD text 0 0 ∷ l) → ⊥
-            first-byte p l t (live-end m z) = s .not-start p t m
-            first-byte p l t (live-on m f v) = s .not-start p t m
+            first-byte p l t (live-end m z) = s .not-start p t (met-in h sets before p (getD text 0 0) m)
+            first-byte p l t (live-on m f v) = s .not-start p t (met-in h sets before p (getD text 0 0) m)
 
             begun-at : (j : ℕ) → j < length text → (a : Bool) → eqb j 0 ≡ a → Starts M a (getD text j 0 ∷ drop (j + 1) text) → ⊥
             begun-at j l a e (starts-none u) = not-T-of (no-null a j e l) u
@@ -170,13 +176,11 @@ module _ (h : Shape) (sets : List (List ℕ)) (before : List ℕ) where
 
         -- from i down to k, no position that may end a part meets a byte
         abbrev Idle : ℕ → ℕ → Type 0
-        Idle k i = (j : ℕ) → k ≤ j → j < i → (q : ℕ) → T (bit (h .stops) q) → met (h .size) sets (getD text j 0) q ≡ false
+        Idle k i = (j : ℕ) → k ≤ j → j < i → (q : ℕ) → T (bit (h .stops) q) → in-set (getD sets q []) (getD text j 0) ≡ false
 
         -- the position `door` meets none of them, and no other may end a part
         unmet : (door k i : ℕ) → ((q : ℕ) → T (bit (h .stops) q) → q ≡ door) → ((j : ℕ) → k ≤ j → j < i → in-set (getD sets door []) (getD text j 0) ≡ false) → Idle k i
-        unfolding met
-        unmet door k i one out j a b q t =
-            ap (λ (p : ℕ). ltb p (h .size) && in-set (getD sets p []) (getD text j 0)) (one q t) ∙ ap (λ (u : Bool). ltb door (h .size) && u) (out j a b) ∙ and-false (ltb door (h .size))
+        unmet door k i one out j a b q t = ap (λ (p : ℕ). in-set (getD sets p []) (getD text j 0)) (one q t) ∙ out j a b
 
         quiet : (i k n : ℕ) → k + n ≡ i → i < length text → Scan h sets before text i 0 (length text + 1) → Idle k i → Scan h sets before text k 0 (length text + 1)
         quiet i k zero e l s out = let z : i ≡ k = omega arith in subst (λ (m : ℕ). Scan h sets before text m 0 (length text + 1)) z s
@@ -193,24 +197,33 @@ module _ (h : Shape) (sets : List (List ℕ)) (before : List ℕ) where
       pub found-shut : Shut h sets (getD text 0 0) → Found M text false
       found-shut s = without some (sym er ∙ qr) s
 
-      pub hunt-first : Hunt h sets before text (h .ends) (length text - 1)
-      hunt-first =
+      pub hunt-first : Closed h before → Hunt h sets before text (h .ends) (length text - 1)
+      hunt-first c =
           let e : length text ≡ length text - 1 + 1 = omega (arith, some) in
           record {
             next = 0;
             inside = omega (arith, some);
-            scan = subst (λ (k : ℕ). Scan h sets before text k 0 (length text + 1)) e (found-first-miss h sets before text (tested h sets before text (length text) true 0) refl (ap₂ _||_ (no-end some (sym er ∙ qr)) (ap (λ (n : ℕ). not (eqb n 0)) (and-zero-r (first-mask h (eqb (length text) 0))))));
+            scan = subst (λ (k : ℕ). Scan h sets before text k 0 (length text + 1)) e (found-first-miss h sets before text c (tested h sets before text (length text) true 0) refl (ap₂ _||_ (no-end some (sym er ∙ qr)) (ap (λ (n : ℕ). not (eqb n 0)) (and-zero-r (first-mask h (eqb (length text) 0))))));
             known = sym (ap (last-mask h) (eq-eqb (length text - 1 + 1) (length text) (sym e)));
             bare = sym er ∙ qr;
           }
 
+    pub hunt-below : (candidates i : ℕ) → Hunt h sets before text candidates i → Below 60 candidates
+    hunt-below candidates i s =
+        subst⁻¹ (λ (n : ℕ). Below 60 n) (s .known) (scan-below h sets before text (i + 1) (s .next) (length text + 1) (last-mask h (eqb (i + 1) (length text))) (s .scan) refl)
+
+    -- of the candidates for the first byte, those that may begin a part
+    pub first-below : (candidates i : ℕ) → Hunt h sets before text candidates i → Below 60 (bitAnd (h .start) candidates)
+    first-below candidates i s k t =
+        hunt-below candidates i s k (right (bit (h .start) k) (bit candidates k) (subst T (bit-and (h .start) candidates k) t))
+
     -- the byte at i is read
-    module _ (candidates i : ℕ) (s : Hunt h sets before text candidates i) (live next : ℕ) (w : Stepped sets before (h .size) candidates (getD text i 0) 0 live next) where
+    module _ (candidates i : ℕ) (s : Hunt h sets before text candidates i) (live next : ℕ) (w : Stepped sets before candidates (getD text i 0) 0 live next) where
       some : length text ≡ 0 → ⊥
       some z = let l : i < length text = s .inside in absurd (omega arith)
 
-      stepped : Stepped sets before (h .size) (bitOr (s .next) (last-mask h (eqb (i + 1) (length text)))) (getD text i 0) 0 live next
-      stepped = subst (λ (n : ℕ). Stepped sets before (h .size) n (getD text i 0) 0 live next) (s .known) w
+      stepped : Stepped sets before (bitOr (s .next) (last-mask h (eqb (i + 1) (length text)))) (getD text i 0) 0 live next
+      stepped = subst (λ (n : ℕ). Stepped sets before n (getD text i 0) 0 live next) (s .known) w
 
       begins-at : (bitAnd (first-mask h (eqb i 0)) live ≡ 0 → ⊥) → Found M text true
       begins-at n =
@@ -266,7 +279,7 @@ module _ (h : Shape) (sets : List (List ℕ)) (before : List ℕ) where
               }
 
     -- the first byte is left
-    module _ (candidates : ℕ) (s : Hunt h sets before text candidates 0) (r : Bool) (w : SomeMet sets (h .size) (bitAnd (h .start) candidates) (getD text 0 0) r) where
+    module _ (candidates : ℕ) (s : Hunt h sets before text candidates 0) (r : Bool) (w : SomeMet sets (bitAnd (h .start) candidates) (getD text 0 0) r) where
       stop : ℕ
       stop = last-mask h (eqb 1 (length text))
 
@@ -281,20 +294,21 @@ module _ (h : Shape) (sets : List (List ℕ)) (before : List ℕ) where
       here : drop 0 text ≡ getD text 0 0 ∷ drop 1 text
       here = drop-at text 0 (s .inside)
 
-      begins-first : (p : ℕ) → T (bit (bitAnd (h .start) candidates) p) → T (met (h .size) sets (getD text 0 0) p) → StartsAt M text 0
+      begins-first : (p : ℕ) → T (bit (bitAnd (h .start) candidates) p) → T (in-set (getD sets p []) (getD text 0 0)) → StartsAt M text 0
       begins-first p t m =
           let c : T (bit (h .start) p && bit candidates p) = subst T (bit-and (h .start) candidates p) t in
+          let first : T (bit (h .start) p) = left (bit (h .start) p) (bit candidates p) c in
           subst⁻¹ (λ (l : List ℕ). Starts M true l) here
-          (starts-live (left (bit (h .start) p) (bit candidates p) c)
+          (starts-live first
           (candidate-live h sets before (getD text 0 0) (s .scan .live) (s .next) stop (drop 1 text) (s .scan .bits) stop-is p
-          (subst (λ (n : ℕ). T (bit n p)) candidates-are (right (bit (h .start) p) (bit candidates p) c)) m))
+          (subst (λ (n : ℕ). T (bit n p)) candidates-are (right (bit (h .start) p) (bit candidates p) c)) (in-met h sets before p (getD text 0 0) (s .scan .closed .starts p first) m)))
 
       not-first : r ≡ false → Starts M true (getD text 0 0 ∷ drop 1 text) → ⊥
       not-first e (starts-none u) = not-T-of (no-null (λ z. let l : 0 < length text = s .inside in absurd (omega arith)) (s .bare) true 0 refl (s .inside)) u
       not-first e (starts-live {p = p} f v) =
           let c = live-candidate h sets before (getD text 0 0) (s .scan .live) (s .next) stop (drop 1 text) (s .scan .bits) stop-is p v in
           w .no e p
-          (subst⁻¹ T (bit-and (h .start) candidates p) (both (bit (h .start) p) (bit candidates p) f (subst⁻¹ (λ (n : ℕ). T (bit n p)) candidates-are (c .0)))) (c .1)
+          (subst⁻¹ T (bit-and (h .start) candidates p) (both (bit (h .start) p) (bit candidates p) f (subst⁻¹ (λ (n : ℕ). T (bit n p)) candidates-are (c .0)))) (met-in h sets before p (getD text 0 0) (c .1))
 
       first-byte : Found M text r
       first-byte = go r refl
@@ -303,7 +317,7 @@ module _ (h : Shape) (sets : List (List ℕ)) (before : List ℕ) where
           go true e = let y = w .yes e in found-yes 0 (omega arith) (begins-first (y .0) (y .1) (y .2))
           go false e = found-neither h sets before text (s .next) (s .scan) (λ v. not-first e (subst (λ (l : List ℕ). Starts M true l) here v))
 
-    pub hunt-last : (candidates i : ℕ) → i ≤ 0 → Hunt h sets before text candidates i → (r : Bool) → SomeMet sets (h .size) (bitAnd (h .start) candidates) (getD text 0 0) r
+    pub hunt-last : (candidates i : ℕ) → i ≤ 0 → Hunt h sets before text candidates i → (r : Bool) → SomeMet sets (bitAnd (h .start) candidates) (getD text 0 0) r
         → Found M text r
     hunt-last candidates i z s r w =
         let e : i ≡ 0 = omega arith in

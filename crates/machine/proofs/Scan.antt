@@ -8,12 +8,12 @@ use lib.Bits.{bitAnd, bitOr}
 use lib.Dec.{T, eqb, ltb}
 use lib.ListN.{length, getD, drop}
 use lib.Seq.{drop-length}
-use borrow.Author.Tests.{ltb-true, ltb-false}
+use borrow.Author.Tests.{ltb-true, ltb-false, lt-ltb}
 use Rattle.octets.specs.Bits.{bit}
 use Rattle.octets.specs.Lists.{pick, empty}
 use Rattle.octets.proofs.Bits.{bit-zero, bit-or, common, share}
-use Rattle.octets.proofs.Tests.{T-of, not-T-of, both, left, right, or-left, or-right, or-cases}
-use Rattle.machine.specs.Machine.{Machine, Live, live-end, live-on, Starts, starts-none, starts-live, StartsAt, Leftmost, Found, first-mask, last-mask, null-at, in-set, met, machine-of, Stepped}
+use Rattle.octets.proofs.Tests.{T-of, not-T-of, is-true, both, left, right, or-left, or-right, or-cases}
+use Rattle.machine.specs.Machine.{Machine, Live, live-end, live-on, Starts, starts-none, starts-live, StartsAt, Leftmost, Found, first-mask, last-mask, null-at, in-set, met, machine-of, Below, Closed, Stepped}
 use Rattle.machine.specs.declared.Shape.{Shape}
 use Rattle.machine.proofs.Places.{drop-at, empty-at}
 
@@ -50,6 +50,14 @@ module _ (h : Shape) (sets : List (List ℕ)) (before : List ℕ) where
   unfolding met
   met-position p b m = left (ltb p (h .size)) (in-set (getD sets p []) b) m
 
+  pub met-in : (p b : ℕ) → T (met (h .size) sets b p) → T (in-set (getD sets p []) b)
+  unfolding met
+  met-in p b m = right (ltb p (h .size)) (in-set (getD sets p []) b) m
+
+  pub in-met : (p b : ℕ) → p < h .size → T (in-set (getD sets p []) b) → T (met (h .size) sets b p)
+  unfolding met
+  in-met p b l m = both (ltb p (h .size)) (in-set (getD sets p []) b) (T-of (lt-ltb p (h .size) l)) m
+
   live-position : {p : ℕ} {l : List ℕ} → Live mach p l → T (ltb p (h .size))
   live-position (live-end {p = p} {b = b} m z) = met-position p b m
   live-position (live-on {p = p} {b = b} m f v) = met-position p b m
@@ -72,25 +80,37 @@ module _ (h : Shape) (sets : List (List ℕ)) (before : List ℕ) where
     live-candidate p (live-on {q = q} m f v) =
         (subst⁻¹ T (bit-or next stop p) (or-left (bit next p) (bit stop p) (s .forth p q (s .complete q v) (right (ltb q (h .size)) (bit (getD before q 0) p) f))), m)
 
-    module _ (live′ next′ : ℕ) (r : Stepped sets before (h .size) (bitOr next stop) b 0 live′ next′) where
+    -- a candidate is a position
+    pub candidates-below : Closed h before → Below (h .size) (bitOr next stop)
+    candidates-below c p t =
+        or-cases (bit next p) (bit stop p) (subst T (bit-or next stop p) t)
+        (λ u. let q = s .back p u in
+        c .befores (q .0) (ltb-true (q .0) (h .size) (is-true (ltb (q .0) (h .size)) (live-position (s .sound (q .0) (q .1))))) p (q .2))
+        (λ u. c .lasts (empty l) p (subst (λ (n : ℕ). T (bit n p)) e u))
+
+    module _ (c : Closed h before) (live′ next′ : ℕ) (r : Stepped sets before (bitOr next stop) b 0 live′ next′) where
       abbrev candidate : ℕ → Bool
       candidate p = bit (bitOr next stop) p
 
-      kept-is : (p : ℕ) → bit live′ p ≡ (candidate p && true && meet p)
-      kept-is p = r .kept p ∙ ap (λ (t : Bool). candidate p && not t && meet p) (bit-zero p)
+      abbrev inside : ℕ → Bool
+      inside p = in-set (getD sets p []) b
+
+      kept-is : (p : ℕ) → bit live′ p ≡ (candidate p && true && inside p)
+      kept-is p = r .kept p ∙ ap (λ (t : Bool). candidate p && not t && inside p) (bit-zero p)
 
       scan-more : Scanned live′ next′ (b ∷ l)
       scan-more = record { sound = sound-at; complete = complete-at; back = r .back; forth = r .forth }
         where
           sound-at : (p : ℕ) → T (bit live′ p) → Live mach p (b ∷ l)
           sound-at p t =
-              let k : T (candidate p && true && meet p) = subst T (kept-is p) t in
-              candidate-live p (left (candidate p) true (left (candidate p && true) (meet p) k)) (right (candidate p && true) (meet p) k)
+              let k : T (candidate p && true && inside p) = subst T (kept-is p) t in
+              let u : T (candidate p) = left (candidate p) true (left (candidate p && true) (inside p) k) in
+              candidate-live p u (in-met p b (candidates-below c p u) (right (candidate p && true) (inside p) k))
 
           complete-at : (p : ℕ) → Live mach p (b ∷ l) → T (bit live′ p)
           complete-at p v =
-              let c = live-candidate p v in
-              subst⁻¹ T (kept-is p) (both (candidate p && true) (meet p) (both (candidate p) true (c .0) tt) (c .1))
+              let k = live-candidate p v in
+              subst⁻¹ T (kept-is p) (both (candidate p && true) (inside p) (both (candidate p) true (k .0) tt) (met-in p b (k .1)))
 
   -- whether a part begins here, as code tests it
   abbrev test : Bool → Bool → ℕ → Bool
@@ -148,6 +168,7 @@ from-past M s v =
 
 -- the scan has come down to i, and r is the smallest place from there on
 pub record Scan (h : Shape) (sets : List (List ℕ)) (before : List ℕ) (text : List ℕ) (i next r : ℕ) : Type 0 where
+  pub closed : Closed h before
   pub live : ℕ
   pub inside : i ≤ length text
   pub bits : Scanned h sets before live next (drop i text)
@@ -173,23 +194,31 @@ module _ (h : Shape) (sets : List (List ℕ)) (before : List ℕ) (text : List �
   none-left : empty (drop (length text) text) ≡ true
   none-left = rw (drop-length text) refl
 
-  pub scan-end : (r : ℕ) → r ≡ pick (tested (length text) true 0) (length text) (length text + 1) → Scan h sets before text (length text) 0 r
-  scan-end r e = subst⁻¹ (λ (k : ℕ). Scan h sets before text (length text) 0 k) e (go (tested (length text) true 0) refl)
+  pub scan-end : Closed h before → (r : ℕ) → r ≡ pick (tested (length text) true 0) (length text) (length text + 1) → Scan h sets before text (length text) 0 r
+  scan-end c r e = subst⁻¹ (λ (k : ℕ). Scan h sets before text (length text) 0 k) e (go (tested (length text) true 0) refl)
     where
       go : (t : Bool) → tested (length text) true 0 ≡ t → Scan h sets before text (length text) 0 (pick t (length text) (length text + 1))
       go true q =
           record {
+            closed = c;
             live = 0;
             inside = omega arith;
             bits = at-end;
             place = from-hit M text (length text) (omega arith) (starts-if (length text) 0 0 true none-left at-end q);
           }
       go false q =
-          record { live = 0; inside = omega arith; bits = at-end; place = from-past M text (starts-not (length text) 0 0 true none-left at-end q) }
+          record { closed = c; live = 0; inside = omega arith; bits = at-end; place = from-past M text (starts-not (length text) 0 0 true none-left at-end q) }
+
+  -- what is asked next
+  pub scan-below : (i next r stop : ℕ) (s : Scan h sets before text i next r) → stop ≡ last-mask h (eqb i (length text)) → Below 60 (bitOr next stop)
+  scan-below i next r stop s e k t =
+      let few : h .size ≤ 60 = s .closed .few in
+      let l : k < h .size = candidates-below h sets before 0 (s .live) next stop (drop i text) (s .bits) (e ∙ ap (last-mask h) (sym (empty-at text i (s .inside)))) (s .closed) k t in
+      omega arith
 
   -- from i to j = i - 1
   module _ (i j next r stop live′ next′ : ℕ) (d : i ≡ j + 1) (s : Scan h sets before text i next r) (e : stop ≡ last-mask h (eqb i (length text)))
-      (w : Stepped sets before (h .size) (bitOr next stop) (getD text j 0) 0 live′ next′) where
+      (w : Stepped sets before (bitOr next stop) (getD text j 0) 0 live′ next′) where
     in-text : j < length text
     in-text = let k : i ≤ length text = s .inside in omega arith
 
@@ -200,7 +229,7 @@ module _ (h : Shape) (sets : List (List ℕ)) (before : List ℕ) (text : List �
     bits-now =
         subst⁻¹ (λ (l : List ℕ). Scanned h sets before live′ next′ l) here
         (scan-more h sets before (getD text j 0) (s .live) next stop (drop i text) (s .bits)
-        (e ∙ ap (last-mask h) (sym (empty-at text i (s .inside)))) live′ next′ w)
+        (e ∙ ap (last-mask h) (sym (empty-at text i (s .inside)))) (s .closed) live′ next′ w)
 
     some-left : empty (drop j text) ≡ false
     some-left = ap empty here
@@ -209,6 +238,7 @@ module _ (h : Shape) (sets : List (List ℕ)) (before : List ℕ) (text : List �
     scan-hit t f q =
         let k : j < length text = in-text in
         record {
+          closed = s .closed;
           live = live′;
           inside = omega arith;
           bits = bits-now;
@@ -219,6 +249,7 @@ module _ (h : Shape) (sets : List (List ℕ)) (before : List ℕ) (text : List �
     scan-miss t f q =
         let k : j < length text = in-text in
         record {
+          closed = s .closed;
           live = live′;
           inside = omega arith;
           bits = bits-now;
@@ -239,7 +270,7 @@ module _ (h : Shape) (sets : List (List ℕ)) (before : List ℕ) (text : List �
   found-at i next r s l = record { yes = λ e. (r, l, s .place .found l); no = λ e. absurd (true≢false e) }
 
   module _ (i j next stop live′ next′ : ℕ) (d : i ≡ j + 1) (s : Scan h sets before text i next (length text + 1)) (e : stop ≡ last-mask h (eqb i (length text)))
-      (w : Stepped sets before (h .size) (bitOr next stop) (getD text j 0) 0 live′ next′) where
+      (w : Stepped sets before (bitOr next stop) (getD text j 0) 0 live′ next′) where
     pub found-hit : (t : Bool) → t ≡ tested j false live′ → t ≡ true → Found M text true
     found-hit t f q =
         let k : i ≤ length text = s .inside in
@@ -248,12 +279,12 @@ module _ (h : Shape) (sets : List (List ℕ)) (before : List ℕ) (text : List �
     pub found-miss : (t : Bool) → t ≡ tested j false live′ → t ≡ false → Scan h sets before text j next′ (length text + 1)
     found-miss t f q = scan-miss i j next (length text + 1) stop live′ next′ d s e w t f q
 
-  module _ (t : Bool) (f : t ≡ tested (length text) true 0) where
+  module _ (c : Closed h before) (t : Bool) (f : t ≡ tested (length text) true 0) where
     pub found-end : t ≡ true → Found M text true
-    found-end q = found-at (length text) 0 (length text) (scan-end (length text) (sym (ap (λ (b : Bool). pick b (length text) (length text + 1)) (sym f ∙ q)))) (omega arith)
+    found-end q = found-at (length text) 0 (length text) (scan-end c (length text) (sym (ap (λ (b : Bool). pick b (length text) (length text + 1)) (sym f ∙ q)))) (omega arith)
 
     pub found-first-miss : t ≡ false → Scan h sets before text (length text) 0 (length text + 1)
-    found-first-miss q = scan-end (length text + 1) (sym (ap (λ (b : Bool). pick b (length text) (length text + 1)) (sym f ∙ q)))
+    found-first-miss q = scan-end c (length text + 1) (sym (ap (λ (b : Bool). pick b (length text) (length text + 1)) (sym f ∙ q)))
 
   -- none begins behind the first byte, nor before it
   pub found-neither : (next : ℕ) → Scan h sets before text 1 next (length text + 1) → (StartsAt M text 0 → ⊥) → Found M text false

@@ -2,69 +2,45 @@
 use mathlib.Core.Path.{_≡_, refl, sym, ap, ap₂, _∙_, subst, subst⁻¹}
 use mathlib.Core.Bool.{Bool, true, false, not, _&&_, _||_, or-false, and-true, and-false, true≢false}
 use mathlib.Core.List.{List, []}
-use Prim.Native.Nat.{ℕ, _*_, _-_, _%_, _^_, _<_, _≤_}
-use native.Mathlib.Nat.{lt-trans, lt-of-le-of-lt}
-use native.Mathlib.Omega.{arith}
-use lib.Bits.{bitAnd, bitOr, bitXor, and-le-l}
+use Prim.Native.Nat.{ℕ, _*_, _-_, _%_, _^_, _<_}
+use native.Mathlib.Nat.{lt-trans}
+use lib.Bits.{bitAnd, bitOr, bitXor}
 use lib.Count.{trailingZeros}
-use lib.Dec.{T, eqb, eqb→eq, eqb-refl, ltb}
+use lib.Dec.{T, eqb, eqb→eq, eqb-refl}
 use lib.ListN.{getD}
-use lib.Pow.{pow-pos}
-use borrow.Author.Tests.{eqb-true, lt-ltb, le-ltb, ltb-true, ltb-false}
+use borrow.Author.Tests.{eqb-true}
 use Rattle.octets.specs.Bits.{bit}
-use Rattle.octets.proofs.Bits.{bit-zero, bit-and, bit-ones, bit-or, bit-add, bit-drop, drop-lt, lowest-set, lowest-drop, bit-below, shl-one}
-use Rattle.octets.proofs.Tests.{T-of, not-T-of, is-true, both, left, right, or-left, or-right, or-cases}
-use Rattle.machine.specs.Machine.{in-set, met, Stepped, SomeMet}
-
--- ---- the code's test
-
-module _ (sets : List (List ℕ)) (size b p : ℕ) where
-  pub met-past : size ≤ p → met size sets b p ≡ false
-  unfolding met
-  met-past h = ap (λ (a : Bool). a && in-set (getD sets p []) b) (le-ltb p size h)
-
-  pub met-is : p < size → (r t : Bool) → r ≡ in-set (getD sets p []) b → r ≡ t → met size sets b p ≡ t
-  unfolding met
-  met-is h r t e q = ap (λ (a : Bool). a && in-set (getD sets p []) b) (lt-ltb p size h) ∙ sym e ∙ q
+use Rattle.octets.proofs.Bits.{bit-zero, bit-or, bit-add, bit-drop, drop-lt, lowest-set, lowest-drop, bit-below, shl-one}
+use Rattle.octets.proofs.Tests.{T-of, not-T-of, is-true, both, left, or-left, or-right, or-cases}
+use Rattle.machine.specs.Machine.{in-set, Below, Stepped, SomeMet}
 
 -- ---- the candidates, one by one
 
-pub size-bit : (size : ℕ) → size ≤ 60 → 1 ≤ 1 * 2 ^ size % 2 ^ 64
-size-bit size h = subst⁻¹ (λ (n : ℕ). 1 ≤ n) (shl-one 64 size (omega arith)) (pow-pos size)
-
-module _ (sets : List (List ℕ)) (before : List ℕ) (size candidates b : ℕ) where
+module _ (sets : List (List ℕ)) (before : List ℕ) (candidates b : ℕ) where
   pub record Stepping (rest live next : ℕ) : Type 0 where
     pub fits : rest < 2 ^ 64
-    pub positions : (k : ℕ) → T (bit rest k) → k < size
     pub among : (k : ℕ) → T (bit rest k) → T (bit candidates k)
-    pub done : Stepped sets before size candidates b rest live next
+    pub done : Stepped sets before candidates b rest live next
 
-  -- the candidates that are positions
-  pub step-none : candidates < 2 ^ 64 → size ≤ 60 → Stepping (bitAnd candidates (1 * 2 ^ size % 2 ^ 64 - 1)) 0 0
-  step-none h few =
-      subst⁻¹ (λ (n : ℕ). Stepping (bitAnd candidates (n - 1)) 0 0) (shl-one 64 size (omega arith))
-      (record {
-        fits = lt-of-le-of-lt (and-le-l candidates (2 ^ size - 1)) h;
-        positions = λ k t. ltb-true k size (is-true (ltb k size) (right (bit candidates k) (ltb k size) (subst T (kept-bit k) t)));
-        among = λ k t. left (bit candidates k) (ltb k size) (subst T (kept-bit k) t);
+  pub step-none : candidates < 2 ^ 64 → Stepping candidates 0 0
+  step-none h =
+      record {
+        fits = h;
+        among = λ k t. t;
         done =
             record {
-              kept = λ k. bit-zero k ∙ sym (ap (λ (t : Bool). bit candidates k && not t && met size sets b k) (kept-bit k) ∙ none-met k (bit candidates k) (ltb k size) refl);
+              kept = λ k. bit-zero k ∙ sym (none-taken (bit candidates k) (in-set (getD sets k []) b));
               back = λ p t. absurd (not-T-of (bit-zero p) t);
               forth = λ p q t u. absurd (not-T-of (bit-zero q) t);
             };
-      })
+      }
     where
-      kept-bit : (k : ℕ) → bit (bitAnd candidates (2 ^ size - 1)) k ≡ (bit candidates k && ltb k size)
-      kept-bit k = bit-and candidates (2 ^ size - 1) k ∙ ap (λ (t : Bool). bit candidates k && t) (bit-ones size k)
+      none-taken : (c m : Bool) → (c && not c && m) ≡ false
+      none-taken true m = refl
+      none-taken false m = refl
 
-      none-met : (k : ℕ) (c t : Bool) → ltb k size ≡ t → (c && not (c && t) && met size sets b k) ≡ false
-      none-met k true true e = refl
-      none-met k true false e = met-past sets size b k (ltb-false k size e)
-      none-met k false t e = refl
-
-  pub step-all : (rest live next : ℕ) → Stepping rest live next → rest ≡ 0 → Stepped sets before size candidates b 0 live next
-  step-all rest live next s e = subst (λ (n : ℕ). Stepped sets before size candidates b n live next) e (s .done)
+  pub step-all : (rest live next : ℕ) → Stepping rest live next → rest ≡ 0 → Stepped sets before candidates b 0 live next
+  step-all rest live next s e = subst (λ (n : ℕ). Stepped sets before candidates b n live next) e (s .done)
 
   -- the lowest candidate p that is left is taken
   module _ (rest live next : ℕ) (s : Stepping rest live next) (n : rest ≡ 0 → ⊥) (p : ℕ) (e : p ≡ trailingZeros 64 rest) where
@@ -73,9 +49,6 @@ module _ (sets : List (List ℕ)) (before : List ℕ) (size candidates b : ℕ) 
 
     pub lowest-lt : p < 64
     lowest-lt = bit-below 64 rest p (s .fits) set-at
-
-    pub lowest-position : p < size
-    lowest-position = s .positions p (T-of set-at)
 
     abbrev rest′ : ℕ
     rest′ = bitAnd rest (rest - 1)
@@ -95,40 +68,39 @@ module _ (sets : List (List ℕ)) (before : List ℕ) (size candidates b : ℕ) 
     step-fits : rest′ < 2 ^ 64
     step-fits = lt-trans step-less (s .fits)
 
-    step-positions : (k : ℕ) → T (bit rest′ k) → k < size
-    step-positions k t = s .positions k (left (bit rest k) (not (eqb k p)) (subst T (taken k) t))
-
     step-among : (k : ℕ) → T (bit rest′ k) → T (bit candidates k)
     step-among k t = s .among k (left (bit rest k) (not (eqb k p)) (subst T (taken k) t))
 
     pub lowest-candidate : T (bit candidates p)
     lowest-candidate = s .among p (T-of set-at)
 
+    pub lowest-below : Below 60 candidates → p < 60
+    lowest-below few = few p lowest-candidate
+
     -- p was a candidate, and is now no longer left
-    module _ (m : Bool) (mp : met size sets b p ≡ m) where
-      kept-turn : (k : ℕ) (t : Bool) → eqb k p ≡ t → ((bit candidates k && not (bit rest k) && met size sets b k) || (t && m)) ≡ (bit candidates k && not (bit rest k && not t) && met size sets b k)
+    module _ (m : Bool) (mp : in-set (getD sets p []) b ≡ m) where
+      kept-turn : (k : ℕ) (t : Bool) → eqb k p ≡ t → ((bit candidates k && not (bit rest k) && in-set (getD sets k []) b) || (t && m)) ≡ (bit candidates k && not (bit rest k && not t) && in-set (getD sets k []) b)
       kept-turn k true q =
           let z : k ≡ p = eqb-true k p q in
           let r : bit rest k ≡ true = ap (bit rest) z ∙ set-at in
           let c : bit candidates k ≡ true = is-true (bit candidates k) (s .among k (T-of r)) in
-          let f : met size sets b k ≡ m = ap (met size sets b) z ∙ mp in
+          let f : in-set (getD sets k []) b ≡ m = ap (λ (j : ℕ). in-set (getD sets j []) b) z ∙ mp in
           ap₂ (λ (a : Bool) (d : Bool). (bit candidates k && not a && d) || m) r f
           ∙ ap (λ (a : Bool). (a && false && m) || m) c
           ∙ sym (ap₂ (λ (a : Bool) (d : Bool). bit candidates k && not (a && false) && d) r f ∙ ap (λ (a : Bool). a && true && m) c)
       kept-turn k false q =
-          or-false (bit candidates k && not (bit rest k) && met size sets b k)
-          ∙ ap (λ (a : Bool). bit candidates k && not a && met size sets b k) (sym (and-true (bit rest k)))
+          or-false (bit candidates k && not (bit rest k) && in-set (getD sets k []) b)
+          ∙ ap (λ (a : Bool). bit candidates k && not a && in-set (getD sets k []) b) (sym (and-true (bit rest k)))
 
-      kept-now : (k : ℕ) → (bit live k || (eqb k p && m)) ≡ (bit candidates k && not (bit rest′ k) && met size sets b k)
+      kept-now : (k : ℕ) → (bit live k || (eqb k p && m)) ≡ (bit candidates k && not (bit rest′ k) && in-set (getD sets k []) b)
       kept-now k =
           ap (λ (a : Bool). a || (eqb k p && m)) (s .done .kept k) ∙ kept-turn k (eqb k p) refl
-          ∙ ap (λ (a : Bool). bit candidates k && not a && met size sets b k) (sym (taken k))
+          ∙ ap (λ (a : Bool). bit candidates k && not a && in-set (getD sets k []) b) (sym (taken k))
 
-    pub step-skip : met size sets b p ≡ false → Stepping rest′ live next
+    pub step-skip : in-set (getD sets p []) b ≡ false → Stepping rest′ live next
     step-skip mp =
         record {
           fits = step-fits;
-          positions = step-positions;
           among = step-among;
           done =
               record {
@@ -144,11 +116,10 @@ module _ (sets : List (List ℕ)) (before : List ℕ) (size candidates b : ℕ) 
     live-bit : (k : ℕ) → bit live′ k ≡ (bit live k || eqb k p)
     live-bit k = ap (λ (m : ℕ). bit (bitOr live m) k) shifted ∙ bit-add live p k
 
-    pub step-keep : met size sets b p ≡ true → Stepping rest′ live′ (bitOr next (getD before p 0))
+    pub step-keep : in-set (getD sets p []) b ≡ true → Stepping rest′ live′ (bitOr next (getD before p 0))
     step-keep mp =
         record {
           fits = step-fits;
-          positions = step-positions;
           among = step-among;
           done =
               record {
@@ -172,18 +143,18 @@ module _ (sets : List (List ℕ)) (before : List ℕ) (size candidates b : ℕ) 
 
 -- ---- whether one of them meets the byte: none of those that were taken does, and so none is live
 
-module _ (sets : List (List ℕ)) (size candidates b : ℕ) where
-  pub met-some : (rest : ℕ) (s : Stepping sets [] size candidates b rest 0 0) (n : rest ≡ 0 → ⊥) (p : ℕ) → p ≡ trailingZeros 64 rest → met size sets b p ≡ true
-      → SomeMet sets size candidates b true
+module _ (sets : List (List ℕ)) (candidates b : ℕ) where
+  pub met-some : (rest : ℕ) (s : Stepping sets [] candidates b rest 0 0) (n : rest ≡ 0 → ⊥) (p : ℕ) → p ≡ trailingZeros 64 rest → in-set (getD sets p []) b ≡ true
+      → SomeMet sets candidates b true
   met-some rest s n p e m =
-      record { yes = λ q. (p, lowest-candidate sets [] size candidates b rest 0 0 s n p e, T-of m); no = λ q. absurd (true≢false q) }
+      record { yes = λ q. (p, lowest-candidate sets [] candidates b rest 0 0 s n p e, T-of m); no = λ q. absurd (true≢false q) }
 
-  pub met-none : (rest : ℕ) → Stepping sets [] size candidates b rest 0 0 → rest ≡ 0 → SomeMet sets size candidates b false
+  pub met-none : (rest : ℕ) → Stepping sets [] candidates b rest 0 0 → rest ≡ 0 → SomeMet sets candidates b false
   met-none rest s e =
-      let all = step-all sets [] size candidates b rest 0 0 s e in
+      let all = step-all sets [] candidates b rest 0 0 s e in
       record {
         yes = λ q. absurd (true≢false (sym q));
         no = λ q p c m.
-            not-T-of (sym (all .kept p ∙ ap (λ (t : Bool). bit candidates p && not t && met size sets b p) (bit-zero p)) ∙ bit-zero p)
-            (both (bit candidates p && true) (met size sets b p) (both (bit candidates p) true c tt) m);
+            not-T-of (sym (all .kept p ∙ ap (λ (t : Bool). bit candidates p && not t && in-set (getD sets p []) b) (bit-zero p)) ∙ bit-zero p)
+            (both (bit candidates p && true) (in-set (getD sets p []) b) (both (bit candidates p) true c tt) m);
       }

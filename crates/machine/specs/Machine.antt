@@ -76,16 +76,27 @@ machine-of h sets before = record {
 
 -- ---- one byte
 
+-- a mask that has no bit from n on
+abbrev pub Below : ℕ → ℕ → Type 0
+Below n mask = (k : ℕ) → T (bit mask k) → k < n
+
+-- what the scan takes for candidates are positions of the machine, which are at most 60
+pub record Closed (h : Shape) (before : List ℕ) : Type 0 where
+  pub few : h .size ≤ 60
+  pub starts : Below (h .size) (h .start)
+  pub lasts : (e : Bool) → Below (h .size) (last-mask h e)
+  pub befores : (q : ℕ) → q < h .size → Below (h .size) (getD before q 0)
+
 -- Of the candidates that are no longer left: `live` are those that meet the byte, `next` those that may stand before a live one.
-pub record Stepped (sets : List (List ℕ)) (before : List ℕ) (size candidates b left live next : ℕ) : Type 0 where
-  pub kept : (k : ℕ) → bit live k ≡ (bit candidates k && not (bit left k) && met size sets b k)
+pub record Stepped (sets : List (List ℕ)) (before : List ℕ) (candidates b left live next : ℕ) : Type 0 where
+  pub kept : (k : ℕ) → bit live k ≡ (bit candidates k && not (bit left k) && in-set (getD sets k []) b)
   pub back : (p : ℕ) → T (bit next p) → (q : ℕ) × T (bit live q) × T (bit (getD before q 0) p)
   pub forth : (p q : ℕ) → T (bit live q) → T (bit (getD before q 0) p) → T (bit next p)
 
 -- whether some candidate meets the byte
-pub record SomeMet (sets : List (List ℕ)) (size candidates b : ℕ) (r : Bool) : Type 0 where
-  pub yes : r ≡ true → (p : ℕ) × T (bit candidates p) × T (met size sets b p)
-  pub no : r ≡ false → (p : ℕ) → T (bit candidates p) → T (met size sets b p) → ⊥
+pub record SomeMet (sets : List (List ℕ)) (candidates b : ℕ) (r : Bool) : Type 0 where
+  pub yes : r ≡ true → (p : ℕ) × T (bit candidates p) × T (in-set (getD sets p []) b)
+  pub no : r ≡ false → (p : ℕ) → T (bit candidates p) → T (in-set (getD sets p []) b) → ⊥
 
 -- ---- what a test need not look at
 
@@ -97,7 +108,7 @@ null-somewhere h n = (h .head || h .tail) || (h .middle && ltb 1 n)
 -- begin it meets b.
 pub record Shut (h : Shape) (sets : List (List ℕ)) (b : ℕ) : Type 0 where
   pub not-inner : h .inner ≡ 0
-  pub not-start : (p : ℕ) → T (bit (h .start) p) → T (met (h .size) sets b p) → ⊥
+  pub not-start : (p : ℕ) → T (bit (h .start) p) → T (in-set (getD sets p []) b) → ⊥
 
 -- r, where it is a position, is the only one of the mask
 abbrev pub Only : ℕ → ℕ → Type 0

@@ -2,12 +2,12 @@
 ghost use mathlib.Core.Path.{_≡_};
 ghost use mathlib.Core.Bool.{true, false, not, _||_};
 ghost use mathlib.Core.List.{[]};
-ghost use Prim.Native.Nat.{_+_, _≤_, _<_};
+ghost use Prim.Native.Nat.{_+_, _<_};
 ghost use lib.Bits.{bitAnd};
 ghost use lib.Dec.{eqb};
 ghost use lib.ListN.{getD, length};
 ghost use Rattle.octets.specs.Lists.{pick};
-ghost use Rattle.machine.specs.Machine.{Stepped, SomeMet, Leftmost, Found, Only, Shut, LastMet, first-mask, last-mask, null-at, null-somewhere, in-set, machine-of};
+ghost use Rattle.machine.specs.Machine.{Below, Closed, Stepped, SomeMet, Leftmost, Found, Only, Shut, LastMet, first-mask, last-mask, null-at, null-somewhere, in-set, machine-of};
 
 // Which positions may begin a part, at the text's start or elsewhere; which may end one, at the text's end or elsewhere; and
 // whether the empty part fits: as the whole text, at its start, at its end, or between.
@@ -39,12 +39,12 @@ fn has(sets: &[[u64; 4]; 60], p: usize, b: u8) -> bool
     (sets[p][w] >> k) & 1 == 1
 }
 
-// Of the candidates, the positions that meet the byte b. Only the candidates are looked at; bits from size on are no positions.
-fn step(sets: &[[u64; 4]; 60], before: &[u64; 60], size: usize, candidates: u64, b: u8) -> Front
-    requires { ⌜ size ≤ 60 ⌝ }
-    ensures { λ r. ⌜ Stepped (now (sets .entry)) (now (before .entry)) size candidates b 0 (r .live) (r .next) ⌝ }
+// Of the candidates, the positions that meet the byte b. Only the candidates are looked at.
+fn step(sets: &[[u64; 4]; 60], before: &[u64; 60], candidates: u64, b: u8) -> Front
+    requires { ⌜ Below 60 candidates ⌝ }
+    ensures { λ r. ⌜ Stepped (now (sets .entry)) (now (before .entry)) candidates b 0 (r .live) (r .next) ⌝ }
 {
-    let mut left = candidates & ((1 << size) - 1);
+    let mut left = candidates;
     let mut live: u64 = 0;
     let mut next: u64 = 0;
     while left != 0 {
@@ -59,11 +59,11 @@ fn step(sets: &[[u64; 4]; 60], before: &[u64; 60], size: usize, candidates: u64,
 }
 
 // Whether some candidate meets the byte b.
-fn is_met(sets: &[[u64; 4]; 60], size: usize, candidates: u64, b: u8) -> bool
-    requires { ⌜ size ≤ 60 ⌝ }
-    ensures { λ r. ⌜ SomeMet (now (sets .entry)) size candidates b r ⌝ }
+fn is_met(sets: &[[u64; 4]; 60], candidates: u64, b: u8) -> bool
+    requires { ⌜ Below 60 candidates ⌝ }
+    ensures { λ r. ⌜ SomeMet (now (sets .entry)) candidates b r ⌝ }
 {
-    let mut left = candidates & ((1 << size) - 1);
+    let mut left = candidates;
     while left != 0 {
         let p = u64::trailing_zeros(left) as usize;
         if has(sets, p, b) {
@@ -132,18 +132,17 @@ fn end_place(h: Shape, n: usize) -> usize
 // The smallest place at which a part of the text fits, or one above its length: a scan from the end, so that what is live before
 // a byte follows from what is live behind it, and the last place found is the smallest.
 pub fn leftmost(h: Shape, sets: &[[u64; 4]; 60], before: &[u64; 60], text: &[u8]) -> usize
-    requires { ⌜ h .size ≤ 60 ⌝ }
+    requires { ⌜ Closed h (now before) ⌝ }
     ensures { λ r. ⌜ Leftmost (machine-of h (now (sets .entry)) (now (before .entry))) (now (text .entry)) r ⌝ }
 {
     let n = text.len();
-    let size = h.size;
     let mut best = end_place(h, n);
     let mut next: u64 = 0;
     let mut i = n;
     while 0 < i {
         let stop = last_of(h, i == n);
         i -= 1;
-        let f = step(sets, before, size, next | stop, text[i]);
+        let f = step(sets, before, next | stop, text[i]);
         next = f.next;
         if begins(h, i == 0, false, f.live) {
             best = i;
@@ -164,13 +163,13 @@ fn empty_somewhere(h: Shape, n: usize) -> bool
 // Whether a text that begins with the byte b has no part but an empty one: another could begin at the text's start alone, and b is met
 // by no position that may begin it.
 fn shut(h: Shape, sets: &[[u64; 4]; 60], b: u8) -> bool
-    requires { ⌜ h .size ≤ 60 ⌝ }
+    requires { ⌜ Below 60 (h .start) ⌝ }
     ensures { λ r. ⌜ (r ≡ true → Shut h (now (sets .entry)) b) ⌝ }
 {
     if h.inner != 0 {
         return false;
     }
-    !is_met(sets, h.size, h.start, b)
+    !is_met(sets, h.start, b)
 }
 
 // The only position of a mask that has one; 60 if it has several.
@@ -203,13 +202,13 @@ fn last_met(sets: &[[u64; 4]; 60], p: usize, text: &[u8], from: usize) -> usize
 // finds, or where nothing can be live any more. Where nothing is live and one position alone may end a part, the door, it goes on at
 // the next byte that this one meets.
 fn scan_down(h: Shape, sets: &[[u64; 4]; 60], before: &[u64; 60], text: &[u8], door: usize) -> bool
-    requires { ⌜ (h .size ≤ 60) × (length (now text) ≡ 0 → ⊥) × (null-somewhere h (length (now text)) ≡ false) × Only (h .stops) door ⌝ }
+    requires { ⌜ Closed h (now before) × (length (now text) ≡ 0 → ⊥) × (null-somewhere h (length (now text)) ≡ false) × Only (h .stops) door ⌝ }
     ensures { λ r. ⌜ Found (machine-of h (now (sets .entry)) (now (before .entry))) (now (text .entry)) r ⌝ }
 {
     let mut candidates = h.ends;
     let mut i = text.len() - 1;
     while 0 < i {
-        let f = step(sets, before, h.size, candidates, text[i]);
+        let f = step(sets, before, candidates, text[i]);
         if h.inner & f.live != 0 {
             return true;
         }
@@ -224,12 +223,12 @@ fn scan_down(h: Shape, sets: &[[u64; 4]; 60], before: &[u64; 60], text: &[u8], d
             }
         }
     }
-    is_met(sets, h.size, h.start & candidates, text[0])
+    is_met(sets, h.start & candidates, text[0])
 }
 
 // Whether some part of the text fits.
 pub fn found(h: Shape, sets: &[[u64; 4]; 60], before: &[u64; 60], text: &[u8]) -> bool
-    requires { ⌜ h .size ≤ 60 ⌝ }
+    requires { ⌜ Closed h (now before) ⌝ }
     ensures { λ r. ⌜ Found (machine-of h (now (sets .entry)) (now (before .entry))) (now (text .entry)) r ⌝ }
 {
     let n = text.len();

@@ -1,5 +1,5 @@
 -- Laws of a number's bits and of masks, for any width.
-use mathlib.Core.Path.{_≡_, refl, sym, ap, ap₂, _∙_}
+use mathlib.Core.Path.{_≡_, refl, sym, ap, ap₂, _∙_, subst⁻¹}
 use mathlib.Core.Bool.{Bool, true, false, not, _&&_, _||_, true≢false, or-true, or-false, and-true, and-false}
 use Prim.Native.Nat.{ℕ, zero, suc, _+_, _*_, _-_, _/_, _%_, _^_, _<_, _≤_, min, max}
 use native.Mathlib.Omega.{arith}
@@ -24,6 +24,9 @@ low-bit n k = ap (λ (x : ℕ). eqb x 1) (and-mask (n / 2 ^ k) 1)
 -- `1 << q`
 pub shl-one : (w q : ℕ) → q < w → 1 * 2 ^ q % 2 ^ w ≡ 2 ^ q
 shl-one w q h = ap (λ (x : ℕ). x % 2 ^ w) (one-mul (2 ^ q)) ∙ mod-eq-of-lt (pow-lt h)
+
+pub shl-some : (w q : ℕ) → q < w → 1 ≤ 1 * 2 ^ q % 2 ^ w
+shl-some w q h = subst⁻¹ (λ (n : ℕ). 1 ≤ n) (shl-one w q h) (pow-pos q)
 
 -- ---- and, or, exclusive or
 

@@ -10,9 +10,12 @@ use lib.Dec.{eqb, leb, ltb}
 use lib.ListN.{length, getD, drop}
 use lib.Seq.{sets, sets-eq, length-sets}
 use borrow.Author.Tests.{leb-true, not-true, not-false}
+use Rattle.octets.specs.Bits.{bit}
 use Rattle.octets.specs.Lists.{pick, peek}
 use Rattle.octets.specs.Option.{_>>=_, holds}
-use Rattle.octets.proofs.Bits.{shl-one}
+use Rattle.octets.proofs.Bits.{shl-one, bit-zero}
+use Rattle.octets.proofs.Tests.{not-T-of}
+use Rattle.machine.specs.Machine.{last-mask, Closed}
 use Rattle.machine.specs.declared.Shape.{Shape}
 use Rattle.pattern.specs.Answers.{was-read, is-pattern}
 use Rattle.pattern.specs.Pattern.{Atom, Elem, Pattern}
@@ -21,9 +24,10 @@ use Rattle.pattern.specs.Prepared.{starred, no-marks, may-lead, mark, ma
 use Rattle.pattern.specs.Reading.{atom, elem, Body, read-pattern}
 use Rattle.pattern.specs.declared.edition1.Marks.{Marks}
 use Rattle.pattern.specs.declared.reader.Piece.{Piece}
+use Rattle.pattern.proofs.Agreeing.{pattern-closed}
 use Rattle.pattern.proofs.Elements.{repeats-at, behind-of, with-elem, Step, anchor-at, body-stop, body-more, finished, read-is, count-empty, starred-elem}
 use Rattle.pattern.proofs.Front.{Stands, front-parts}
-use Rattle.pattern.proofs.Positions.{at-bit, befores-length}
+use Rattle.pattern.proofs.Positions.{befores-length}
 
 -- ---- what was read
 
@@ -212,18 +216,36 @@ pub prepared-ready : (fold : Bool) (p : List ℕ) (h : Shape) (old-sets sets : L
     → Ready fold p h sets before
 prepared-ready fold p h old-sets sets old-before before q = record { old-sets = old-sets; old-before = old-before; prepared = q }
 
--- a pattern has at most 60 positions
-size-few : (p : List ℕ) (o : Option Pattern) → read-pattern p ≡ o → shape-of o .size ≤ 60
+-- a pattern has at most 60 elements
+few-elements : (p : List ℕ) (x : Pattern) → read-pattern p ≡ some x → length (x .elems) ≤ 60
 unfolding is-pattern
-size-few p none e = omega arith
-size-few p (some x) e =
+few-elements p x e =
     let y : is-pattern p ≡ true = ap was-read e in
     let w = whole-of p (λ k. true≢false (sym y ∙ sym (count-empty p k))) y in
     let q : _≡_ {A = Option Pattern} (some x) (some (record { at-start = eqb (peek p) 94; elems = w .body .parts; at-end = w .body .anchored })) = sym e ∙ w .is in
     let z : x ≡ record { at-start = eqb (peek p) 94; elems = w .body .parts; at-end = w .body .anchored } = cc in
     let n : length (x .elems) ≡ length (w .body .parts) = ap (λ (k : Pattern). length (k .elems)) z in
     let f : length (w .body .parts) ≤ 60 = w .few in
-    omega (arith, at-bit no-marks (x .elems))
+    omega arith
 
-pub ready-few : (fold : Bool) (p : List ℕ) (h : Shape) (sets : List (List ℕ)) (before : List ℕ) → Ready fold p h sets before → h .size ≤ 60
-ready-few fold p h sets before r = subst⁻¹ (λ (k : Shape). k .size ≤ 60) (r .prepared .shape) (size-few p (read-pattern p) refl)
+-- the machine that takes no part has no position
+none-closed : (before : List ℕ) → Closed no-shape before
+none-closed before = record {
+  few = omega arith;
+  starts = λ k t. absurd (not-T-of (bit-zero k) t);
+  lasts = λ e k t. absurd (not-T-of (lost e k) t);
+  befores = λ q l. absurd (omega arith);
+}
+  where
+    lost : (e : Bool) (k : ℕ) → bit (last-mask no-shape e) k ≡ false
+    lost true k = bit-zero k
+    lost false k = bit-zero k
+
+pub ready-closed : (fold : Bool) (p : List ℕ) (h : Shape) (sets : List (List ℕ)) (before : List ℕ) → Ready fold p h sets before → Closed h before
+ready-closed fold p h sets before r =
+    subst⁻¹ (λ (x : List ℕ). Closed h x) (r .prepared .lent-before)
+    (subst⁻¹ (λ (k : Shape). Closed k (befores-after (read-pattern p) (r .old-before))) (r .prepared .shape) (go (read-pattern p) refl))
+  where
+    go : (o : Option Pattern) → read-pattern p ≡ o → Closed (shape-of o) (befores-after o (r .old-before))
+    go none e = none-closed (r .old-before)
+    go (some x) e = pattern-closed fold (x .at-start) (x .at-end) (x .elems) (r .old-sets) (drop (length (x .elems)) (r .old-before)) (few-elements p x e)

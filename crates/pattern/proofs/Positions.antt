@@ -204,7 +204,8 @@ opens-bit es p =
 pub size-is : (es : List Elem) → marks no-marks es .at ≡ length es
 size-is es = at-bit no-marks es ∙ zero-add (length es)
 
-leads-past : (es : List Elem) (q : ℕ) → length es ≤ q → leads es q ≡ false
+-- no position from the number of elements on
+pub leads-past : (es : List Elem) (q : ℕ) → length es ≤ q → leads es q ≡ false
 leads-past [] q h = refl
 leads-past (e ∷ es) zero h = absurd (omega arith)
 leads-past (e ∷ es) (suc q) h = ap (λ (t : Bool). starred e && t) (leads-past es q (omega arith)) ∙ and-false (starred e)
@@ -233,6 +234,17 @@ free-bit es = opens-bit es (marks no-marks es .at) ∙ ap (opens es) (size-is es
 pub befores-length : (m : Marks) (es : List Elem) → length (befores m es) ≡ length es
 befores-length m [] = refl
 befores-length m (e ∷ es) = ap suc (befores-length (mark m (starred e)) es)
+
+pub ends-past : (es : List Elem) (p : ℕ) → length es ≤ p → ends es p ≡ false
+ends-past [] p h = refl
+ends-past (e ∷ es) zero h = absurd (omega arith)
+ends-past (e ∷ es) (suc p) h = ends-past es p (omega arith)
+
+pub precedes-past : (es : List Elem) (p q : ℕ) → length es ≤ p → follows es p q ≡ false
+precedes-past [] p q h = refl
+precedes-past (e ∷ es) zero q h = absurd (omega arith)
+precedes-past (e ∷ es) (suc p) zero h = refl
+precedes-past (e ∷ es) (suc p) (suc q) h = precedes-past es p q (omega arith)
 
 pub follows-past : (es : List Elem) (p q : ℕ) → length es ≤ q → follows es p q ≡ false
 follows-past [] p q h = refl

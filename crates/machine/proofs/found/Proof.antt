@@ -1,12 +1,12 @@
 use denote.Ref.{now}
-use Rattle.machine.proofs.Hunt.{found-empty, found-null, found-shut, only-none}
+use Rattle.machine.proofs.Hunt.{start-below, found-empty, found-null, found-shut, only-none}
 use mathlib.Core.Path.{sym, _∙_}
 use borrow.Author.Needs.{needs}
 use Rattle.machine.proofs.found.Statement.{statement}
 use Rattle.machine.proofs.found.Tie as tie
 
 returns : tie.Need-returns
-returns c = found-empty _ _ (now (c .before .before .args .before)) _ (c .if1 .taken)
+returns c = found-empty _ _ _ _ (c .before .before .pre) (c .if1 .taken)
 
 empty-somewhere-requires : tie.Need-empty-somewhere-requires
 empty-somewhere-requires c κs = search needs
@@ -19,7 +19,7 @@ shared-slice-read-shut : tie.Need-shared-slice-read-shut
 shared-slice-read-shut c = search needs
 
 shut-requires : tie.Need-shut-requires
-shut-requires c κs = search needs
+shut-requires c κs = start-below _ _ (c .before .before .before .before .before .pre)
 
 returns-3 : tie.Need-returns-3
 returns-3 c =

@@ -1,5 +1,5 @@
 use borrow.Author.Needs.{needs}
-use Rattle.machine.proofs.Scan.{Scan, scan-end, scan-hit, scan-miss, scan-all}
+use Rattle.machine.proofs.Scan.{Scan, scan-end, scan-below, scan-hit, scan-miss, scan-all}
 use Prim.Native.Nat.{_+_, _-_}
 use mathlib.Core.Path.{_≡_}
 use native.Mathlib.Omega.{arith}
@@ -7,10 +7,10 @@ use Rattle.machine.proofs.leftmost.Statement.{statement}
 use Rattle.machine.proofs.leftmost.Tie as tie
 
 abbrev Inv-loop : tie.InvT-loop
-Inv-loop h sets before text n size best₀ next₀ i₀ best next i = Scan h sets before text i next best
+Inv-loop h sets before text n best₀ next₀ i₀ best next i = Scan h sets before text i next best
 
 abbrev μ-loop : tie.MeasureT-loop
-μ-loop h sets before text n size best₀ next₀ i₀ best next i = i
+μ-loop h sets before text n best₀ next₀ i₀ best next i = i
 
 end-place-requires : tie.Need-end-place-requires Inv-loop μ-loop
 end-place-requires c κs = search needs
@@ -28,7 +28,7 @@ shared-slice-read-step : tie.Need-shared-slice-read-step Inv-loop μ-loop
 shared-slice-read-step c = search needs
 
 step-requires : tie.Need-step-requires Inv-loop μ-loop
-step-requires c κs = search needs
+step-requires c κs = scan-below _ _ _ _ _ _ _ _ (c .before .before .before .loop .inv) (c .before .last-of .ensures)
 
 begins-requires : tie.Need-begins-requires Inv-loop μ-loop
 begins-requires c κs = search needs

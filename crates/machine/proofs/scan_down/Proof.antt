@@ -1,5 +1,4 @@
-use denote.Ref.{now}
-use Rattle.machine.proofs.Hunt.{Hunt, hunt-first, hunt-hit, hunt-next, hunt-dead, hunt-skip, hunt-last}
+use Rattle.machine.proofs.Hunt.{Hunt, hunt-below, first-below, hunt-first, hunt-hit, hunt-next, hunt-dead, hunt-skip, hunt-last}
 use mathlib.Core.Path.{refl}
 use native.Mathlib.Omega.{arith}
 use borrow.Author.Needs.{needs}
@@ -16,13 +15,13 @@ sub-i : tie.Need-sub-i Inv-loop μ-loop
 sub-i c = search needs
 
 loop-holds : tie.Need-loop-holds Inv-loop μ-loop
-loop-holds c = hunt-first _ _ (now (c .before .args .before)) _ (c .before .pre .1) _ refl (c .before .pre .2)
+loop-holds c = hunt-first _ _ _ _ (c .before .pre .1) _ refl (c .before .pre .2) (c .before .pre .0)
 
 shared-slice-read-step : tie.Need-shared-slice-read-step Inv-loop μ-loop
 shared-slice-read-step c = search (needs, c .before .before .loop .inv .inside)
 
 step-requires : tie.Need-step-requires Inv-loop μ-loop
-step-requires c κs = search needs
+step-requires c κs = hunt-below _ _ _ _ _ _ (c .before .before .loop .inv)
 
 returns : tie.Need-returns Inv-loop μ-loop
 returns c =
@@ -73,7 +72,7 @@ shared-slice-read-is-met : tie.Need-shared-slice-read-is-met Inv-loop μ-loop
 shared-slice-read-is-met c = search (needs, c .before .before .before .loop .inv .inside)
 
 is-met-requires : tie.Need-is-met-requires Inv-loop μ-loop
-is-met-requires c κs = search needs
+is-met-requires c κs = first-below _ _ _ _ _ _ (c .before .before .before .loop .inv)
 
 returns-3 : tie.Need-returns-3 Inv-loop μ-loop
 returns-3 c =

@@ -1,10 +1,10 @@
 use Rattle.pattern.proofs.Finding.{found-first}
-use Rattle.pattern.proofs.Filling.{ready-few}
+use Rattle.pattern.proofs.Filling.{ready-closed}
 use Rattle.pattern.proofs.first_match.Statement.{statement}
 use Rattle.pattern.proofs.first_match.Tie as tie
 
 leftmost-requires : tie.Need-leftmost-requires
-leftmost-requires c κs = ready-few _ _ _ _ _ (c .before .before .pre)
+leftmost-requires c κs = ready-closed _ _ _ _ _ (c .before .before .pre)
 
 returns : tie.Need-returns
 returns c =

@@ -1,10 +1,10 @@
 use Rattle.pattern.proofs.Finding.{found-meets}
-use Rattle.pattern.proofs.Filling.{ready-few}
+use Rattle.pattern.proofs.Filling.{ready-closed}
 use Rattle.pattern.proofs.test.Statement.{statement}
 use Rattle.pattern.proofs.test.Tie as tie
 
 found-requires : tie.Need-found-requires
-found-requires c κs = ready-few _ _ _ _ _ (c .before .before .pre)
+found-requires c κs = ready-closed _ _ _ _ _ (c .before .before .pre)
 
 returns : tie.Need-returns
 returns c =

@@ -1,6 +1,7 @@
 use mathlib.Core.Path.{refl}
+use native.Mathlib.Omega.{arith}
 use borrow.Author.Needs.{needs}
-use Rattle.machine.proofs.Stepping.{size-bit}
+use Rattle.octets.proofs.Bits.{shl-some}
 use Rattle.pattern.proofs.Filling.{shape-is}
 use Rattle.pattern.proofs.edition1.shape_by.Statement.{statement}
 use Rattle.pattern.proofs.edition1.shape_by.Tie as tie
@@ -9,7 +10,7 @@ shl-start : tie.Need-shl-start
 shl-start c = search needs
 
 rem-start : tie.Need-rem-start
-rem-start c = search (needs, size-bit)
+rem-start c = shl-some 64 _ (omega (arith, c .before .pre))
 
 may-lead-requires : tie.Need-may-lead-requires
 may-lead-requires c κs = search needs
