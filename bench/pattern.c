@@ -146,7 +146,12 @@ static struct times measure(const struct contenders *of, uint32_t times) {
     return best;
 }
 
+/* The largest ratios of all rows. */
+static double most_to_plain, most_to_library;
+
 static void row(const char *what, const char *size, struct times t, double parts) {
+    if (t.ours / t.plain > most_to_plain) most_to_plain = t.ours / t.plain;
+    if (t.ours / t.library > most_to_library) most_to_library = t.ours / t.library;
     printf("%-28.28s %8s %10.0f %10.0f %10.0f %8.2f %8.2f\n", what, size, t.ours / parts, t.plain / parts, t.library / parts,
         t.ours / t.plain, t.ours / t.library);
 }
@@ -213,5 +218,6 @@ int main(void) {
     reading(on_names, 1);
     reading(on_values, 0);
     growing();
+    printf("\nin every row at most %.2f of plain C's time and %.2f of the C library's\n", most_to_plain, most_to_library);
     return 0;
 }
