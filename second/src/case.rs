@@ -138,6 +138,9 @@ fn advance(case: &Case, numbers: &mut [u32]) -> u32 {
             if twisted(Twist::RefusedAdvanceFinishes) {
                 numbers[1] = session::FINISHED;
             }
+            if twisted(Twist::RefusedAdvanceForgets) && fault.number <= 7 {
+                numbers[2..5].fill(0);
+            }
             fault.number
         }
     }

@@ -293,6 +293,7 @@ twists! {
     RefusedOpeningWritesNothing: "S12: a refused opening writes nothing",
     RefusedAdvanceKeepsCounts: "S10: a refused advance leaves its counts",
     RefusedAdvanceFinishes: "S10: a refused advance finishes the session",
+    RefusedAdvanceForgets: "S10: an advance refused with 1 to 7 forgets what was forwarded",
     RefusedReportEnds: "S10: a refused report ends the session",
     // Listing and lookups
     AnyMethodListed: "any method is listed",

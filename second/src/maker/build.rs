@@ -58,6 +58,9 @@ pub fn information(label: &str, image: &[u8], number: u32) -> Case {
 
 pub const READY: Session = Session { case: 0, state: 0, forwarded: 0, last: 0, handling: 0 };
 
+/// Ready again, with something in every number that a refusal must leave alone.
+pub const FORWARDED: Session = Session { case: 2, state: 0, forwarded: 1, last: 1, handling: 1 };
+
 /// A ready session that has forwarded.
 pub fn after(last: u32) -> Session {
     Session { forwarded: 1, last, ..READY }

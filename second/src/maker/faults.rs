@@ -245,7 +245,7 @@ fn singles() -> Vec<Case> {
         let (label, draft) = with(&[fault]);
         let image = draft.bytes();
         cases.push(build::check(&label, &image));
-        cases.push(build::advance(&label, &image, build::INVITE, build::READY));
+        cases.push(build::advance(&label, &image, build::INVITE, build::FORWARDED));
         cases.push(build::list(&label, &image, build::REGISTER, 0, 0, 5));
         cases.push(build::server(&label, &image, 0));
         cases.push(build::information(&label, &image, 0));

@@ -1,6 +1,6 @@
 //! The order of refusals: every mixture of right and wrong inputs; every session record.
 
-use super::build::{self, INVITE, READY, REGISTER};
+use super::build::{self, FORWARDED, INVITE, READY, REGISTER};
 use super::draft::{Draft, DNF};
 use crate::case::Case;
 use crate::session::Session;
@@ -29,9 +29,13 @@ fn mixtures() -> Vec<Case> {
     let mut cases = Vec::new();
     for image in [&right, &faulty] {
         for request in [INVITE, REGISTER, UNREADABLE] {
-            for session in
-                [READY, impossible, Session { case: 4, ..READY }, Session { state: 1, forwarded: 1, ..READY }]
-            {
+            for session in [
+                READY,
+                FORWARDED,
+                impossible,
+                Session { case: 4, ..READY },
+                Session { state: 1, ..FORWARDED },
+            ] {
                 cases.push(build::advance("order of refusals", image, request, session));
             }
             for case in [0, 3, 4, u32::MAX] {
