@@ -15,7 +15,7 @@ all: $(ARCHIVE)
 	sed 's|@PREFIX@|$(PREFIX)|' include/ifc.pc.in >$(DIST)/lib/pkgconfig/ifc.pc
 
 # rt proves only what has changed, and may leave an archive as it is.
-$(ARCHIVE): crates.txt $(wildcard crates/*/src/*.rt crates/*/specs/*.antt crates/*/proofs/*.antt)
+$(ARCHIVE): crates.txt $(shell find crates -name "*.rt" -o -name "*.antt")
 	rt staticlib ifc
 	touch $@
 

@@ -6,13 +6,14 @@
 #include <string.h>
 #include <ifc.h>
 
+/* Held as it is while one request is taken through it: a criterion's number means something in its own image only. */
 struct profile {
     const uint8_t *image;
     size_t length;
 };
 
 struct call {
-    const uint8_t *request; /* as it came from the wire; the controller replaces it when a server sends it back changed */
+    const uint8_t *request; /* from its start line on; the controller replaces it when a server sends it back changed */
     size_t length;
     uint32_t session_case, registration_type;
     uint32_t fate;    /* for the stub of forward: what will be reported, */
@@ -53,8 +54,9 @@ static void alarm_raised(const char *why, uint32_t number, uint32_t place) {
 
 /* ------------------------------------------------------------------------------------------------------------------------- */
 
-/* Every refusal ends here. None of them lets a call go on unseen. */
-static void refused(struct call *c, uint32_t number, uint32_t place) {
+/* Every refusal ends here, but for the 11 of a REGISTER that comes in, which is listed (see take). None of them lets a call go on
+ * unseen. `on_the_way`: a server has had the request. */
+static void refused(struct call *c, uint32_t number, uint32_t place, uint32_t on_the_way) {
     switch (number) {
     case IFC_IMAGE_TOO_LONG:
     case IFC_IMAGE_CUT:
@@ -66,17 +68,18 @@ static void refused(struct call *c, uint32_t number, uint32_t place) {
         reject(c, 500);
         return;
     case IFC_REQUEST_UNREADABLE:
-        reject(c, 400);
+        if (on_the_way) alarm_raised("a server sent the call back unreadable", number, place);
+        reject(c, on_the_way ? 500 : 400);
         return;
-    case IFC_WRONG_METHOD: /* a REGISTER that comes in is listed, see take; this one was made on the way */
+    case IFC_WRONG_METHOD:
         alarm_raised("a server sent the call back as a REGISTER", number, place);
         reject(c, 500);
         return;
     case IFC_NUMBER_OUT_OF_RANGE: /* case or report */
     case IFC_TYPE_OUT_OF_RANGE:   /* registration type */
     case IFC_WRONG_MOMENT:        /* advance without a report, report without a forward, or a session that was overwritten */
-    case IFC_TOO_FEW_PLACES:      /* 64 places always suffice */
-    case IFC_NO_SUCH_CRITERION:   /* a number from another image */
+    case IFC_TOO_FEW_PLACES:      /* IFC_CRITERIA_MOST always suffice */
+    case IFC_NO_SUCH_CRITERION:   /* a number from another image; one that is not too large is not noticed */
     default:
         alarm_raised("the controller calls wrongly", number, place);
         reject(c, 500);
@@ -85,18 +88,18 @@ static void refused(struct call *c, uint32_t number, uint32_t place) {
 
 /* A REGISTER: every server that wants to know is told. */
 static void take_registration(const struct profile *p, struct call *c) {
-    uint8_t list[64];
+    uint8_t list[IFC_CRITERIA_MOST];
     uint32_t place, count, examined, trials, start, length;
     uint32_t refusal = ifc_list(p->image, p->length, c->request, c->length, c->session_case, c->registration_type, list,
         sizeof list, &place, &count, &examined, &trials);
     if (refusal) {
-        refused(c, refusal, place);
+        refused(c, refusal, place, 0);
         return;
     }
     for (uint32_t i = 0; i < count; i++) {
         refusal = ifc_server(p->image, p->length, list[i], &place, &start, &length);
         if (refusal) {
-            refused(c, refusal, place);
+            refused(c, refusal, place, 0);
             return;
         }
         tell(c, p->image + start, length);
@@ -115,7 +118,7 @@ static void take(const struct profile *p, struct call *c) {
             return;
         }
         if (refusal) {
-            refused(c, refusal, answer.place);
+            refused(c, refusal, answer.place, session.forwarded);
             return;
         }
         if (answer.outcome == IFC_ROUTE) {
@@ -124,13 +127,13 @@ static void take(const struct profile *p, struct call *c) {
         }
         refusal = ifc_server(p->image, p->length, answer.criterion, &place, &start, &length);
         if (refusal) {
-            refused(c, refusal, place);
+            refused(c, refusal, place, session.forwarded);
             return;
         }
         /* c->request is now as the server sent it back, if it did */
         refusal = ifc_session_report(&session, forward(c, p->image + start, length));
     }
-    if (refusal) refused(c, refusal, 0);
+    if (refusal) refused(c, refusal, 0, session.forwarded);
     else if (session.state == IFC_RELEASED) reject(c, 408); /* ended: the server has answered, nothing is left to do */
 }
 
@@ -153,6 +156,7 @@ static void show(const char *title, size_t image_len, const char *request, uint3
 int main(void) {
     show("the server sends the call back", sizeof image, invite, IFC_ORIGINATING, IFC_RETURNED, invite);
     show("the server sends it back as a registration", sizeof image, invite, IFC_ORIGINATING, IFC_RETURNED, registers);
+    show("the server sends it back damaged", sizeof image, invite, IFC_ORIGINATING, IFC_RETURNED, "hello");
     show("the server is not reached", sizeof image, invite, IFC_ORIGINATING, IFC_UNREACHABLE, NULL);
     show("the server answers", sizeof image, invite, IFC_ORIGINATING, IFC_FINAL_RESPONSE, NULL);
     show("a registration", sizeof image, registers, IFC_ORIGINATING, IFC_RETURNED, NULL);

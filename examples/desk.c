@@ -76,7 +76,7 @@ static void report(ifc_session *session, uint32_t what) {
 
 static const char *in_plain_words(const ifc_session *session, const ifc_answer *last, int asked, uint32_t of_recorder) {
     if (last->outcome == IFC_REFUSED) return "it was refused, and went nowhere";
-    if (!asked) return "the recorder was not asked for";
+    if (!asked) return "the recorder was not asked";
     if (of_recorder == IFC_RETURNED) return "it passed the recorder";
     if (of_recorder == IFC_FINAL_RESPONSE) return "the recorder answered it, and it went nowhere else";
     if (session->state == IFC_RELEASED) return "it did not pass the recorder, and went nowhere else";
@@ -102,7 +102,7 @@ static void call(const char *title, const char *first, const char *next, uint32_
 
 static void registration(const char *title, uint32_t type) {
     const struct request *r = request("register.sip");
-    uint8_t list[64];
+    uint8_t list[IFC_CRITERIA_MOST];
     uint32_t place, count, examined, trials;
     printf("%s\n", title);
     uint32_t refusal = ifc_list(image, image_len, r->at, r->length, IFC_ORIGINATING, type, list, sizeof list, &place, &count,

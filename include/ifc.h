@@ -6,25 +6,27 @@
  *
  * Profile image   the subscriber's filter criteria in the house format (docs/IMAGE.md of the source), at most 32,768 bytes. Every call
  *                 that takes an image judges the whole of it before using it, so it need not be checked before.
- * Request         one SIP request as it came from the wire: start line, fields, empty line, body; at most 65,535 bytes.
+ * Request         one SIP request, cut from the wire by the host: it begins with its start line, with no line before it; the body is
+ *                 all that follows the first empty line; lines of the head end with CR LF; at most 65,535 bytes.
  * Session         five numbers that the caller keeps between calls: see ifc_session. Nothing needs closing.
  * Criterion       named by its number in the image, counted from 0, not by its priority.
  *
  * What every call keeps to
  *
  * - It returns a refusal number, 0 for none. If several would apply, it is the first in this order: 10, 1 to 6 (the first fault
- *   of the image in reading order), 7, 11, 8, 9, 12; for a lookup 13 after the image.
+ *   of the image in reading order), 7, 11, 8, 9, 12; for a lookup 13 after the image. A refusal names no server and no route: the
+ *   host must not let the SIP call go on. The session may be tried again with what was wrong mended.
  * - A lent number (uint32_t *) is written on every return. On a refusal it is 0, with two exceptions: `place`, where an image
- *   fault (1 to 6) stands, in bytes from the image's start; and a session's numbers, which stay as they were. ifc_open alone
- *   writes a session on a refusal, too.
- * - Image and request are only read, and lent for the call: nothing points into them afterwards. They may be NULL if their length
- *   is 0, and so may the list. All other pointers must be valid and aligned. Lent numbers and the list overlap nothing else that
- *   is lent.
+ *   fault (1 to 6) stands, in bytes from the image's start (it may be 0: the number returned tells whether there is one); and a
+ *   session's numbers, which hold what they held. Only ifc_open gives them new values on a refusal.
+ * - Image and request are only read, and lent for the call: nothing points into them afterwards, and nobody may change them while it
+ *   runs. They may be NULL if their length is 0, and so may the list. All other pointers must be valid and aligned. Lent numbers
+ *   and the list overlap nothing else that is lent.
  * - There is no global state. Any number of threads may call at once, also over one image; a session belongs to one thread at a
  *   time, as any variable does.
  * - Stack: at most 160 KB (163,840 bytes) for a call, measured.
- * - Time grows with rows times request: a typical advance takes some 25 us on x86-64. The dearest that we found, 2,048 rows of
- *   sixty starred elements over one value of 65,516 bytes, takes some 12 s: measured on aarch64, with the same code.
+ * - Time grows with rows times request. Compiled for aarch64, a typical advance takes some 13 us, and the dearest that we found,
+ *   2,048 rows of sixty starred elements over one value of 65,516 bytes, some 12 s. On x86-64 an earlier typical advance took 24 us.
  *
  * C99 and C++. Link with libifc.a: code for Linux on x86-64 that needs memcpy and memset alone. */
 #ifndef IFC_H
@@ -48,7 +50,7 @@ enum {
     IFC_IMAGE_TOO_LONG = 1,       /* image over 32,768 */
     IFC_IMAGE_CUT = 2,            /* image ends too early */
     IFC_IMAGE_NOT_AT_END = 3,     /* bytes after the criteria */
-    IFC_IMAGE_FIELD = 4,          /* field out of range, order or table; row without membership; edition other than 1 */
+    IFC_IMAGE_FIELD = 4,          /* field out of range, order or table; edition not 1; row with no membership or above eight */
     IFC_IMAGE_STRING = 5,         /* string wrong for its use */
     IFC_IMAGE_PRIORITY = 6,       /* repeated priority */
     IFC_REQUEST_UNREADABLE = 7,   /* request unreadable */
@@ -122,7 +124,7 @@ uint32_t ifc_report(uint32_t session_case, uint32_t *state, uint32_t forwarded, 
 
 /* For a REGISTER, without a session: the numbers of "every fitting criterion, priority rising" in the first places of the list,
  * one byte a place; the rest of the list stays as it was. *count says how many. *examined is the number of criteria, *trials as
- * for an advance.
+ * for an advance. 3GPP counts a REGISTER as originating; the case is the host's to give.
  *
  * Refused with 1 to 6, 7, 11 (another method), 8, 9, or 12 (list too short; IFC_CRITERIA_MOST places always suffice): the list
  * stays. */
@@ -131,12 +133,13 @@ uint32_t ifc_list(const uint8_t *image, size_t image_len, const uint8_t *request
     uint32_t *trials);
 
 /* Where a criterion's server name stands in the image: *length bytes (never 0) from image + *start, with no zero byte at the end.
+ * Lend the image that the advance or the listing was lent: in another image the number names another server, or none (13).
  * Refused with 1 to 6 or 13. */
 uint32_t ifc_server(const uint8_t *image, size_t image_len, uint32_t criterion, uint32_t *place, uint32_t *start,
     uint32_t *length);
 
 /* Whether a criterion has service information (*present 1 or 0), and where it stands in the image (start and length are 0 if it is
- * absent). Present information may be empty. Refused with 1 to 6 or 13. */
+ * absent). Present information may be empty. The image as for ifc_server. Refused with 1 to 6 or 13. */
 uint32_t ifc_information(const uint8_t *image, size_t image_len, uint32_t criterion, uint32_t *place, uint32_t *present,
     uint32_t *start, uint32_t *length);
 

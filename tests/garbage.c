@@ -205,13 +205,18 @@ static void list_all(void) {
 }
 
 static void lookup(void) {
-    uint32_t criterion = draw_number(10), place = 7, start = 7, length = 7, present = 1, refusal;
-    if (draw(2)) refusal = ifc_server(image.at, image.length, criterion, &place, &start, &length);
-    else refusal = ifc_information(image.at, image.length, criterion, &place, &present, &start, &length);
+    uint32_t criterion = draw_number(10), place = 7, start = 7, length = 7, present = 7, refusal;
+    if (draw(2)) {
+        refusal = ifc_server(image.at, image.length, criterion, &place, &start, &length);
+        present = !refusal;
+    } else {
+        refusal = ifc_information(image.at, image.length, criterion, &place, &present, &start, &length);
+    }
     seen(refusal, "yyyyyyy......y");
     place_holds(refusal, place);
-    must(present <= 1 && (size_t)start + length <= image.length, "a part outside the image");
-    if (refusal || !present) must(start == 0 && length == 0, "a part where there is none");
+    must(present <= (refusal ? 0u : 1u), "a part that is present though refused");
+    must((size_t)start + length <= image.length, "a part outside the image");
+    if (!present) must(start == 0 && length == 0, "a part where there is none");
 }
 
 int main(int argc, char **argv) {

@@ -1,6 +1,6 @@
 #!/bin/sh
 # install.sh: `make install` into an empty place. A program that takes its flags from the installed pkg-config file, and nothing from
-# this directory, builds over what stands there, as C and as C++, and runs.
+# this directory but the C library's headers of kit_inc, builds over what stands there, as C and as C++, and runs.
 set -eu
 cd "$(dirname "$0")/.."
 out=$PWD/target/tests/install.d
@@ -27,7 +27,8 @@ install() {
 }
 
 install DESTDIR= PREFIX="$out/usr"
-if make -n install | grep -q '^rt '; then fail "a second make install proves again"; fi
+again=$(make -n install) || fail "make -n install failed"
+if echo "$again" | grep -q '^rt '; then fail "a second make install proves again"; fi
 if command -v pkg-config >/dev/null 2>&1; then
     PKG_CONFIG_PATH=$(dirname "$pc")
     export PKG_CONFIG_PATH

@@ -1,5 +1,5 @@
 /* Several threads at once over one image and one set of requests, each with sessions and lists of its own: what each is answered
- * equals what one thread alone was answered before. A library that kept anything between or outside calls would mix them up. */
+ * equals what one thread alone was answered before. A library that kept anything between or outside calls could mix them up. */
 #include <pthread.h>
 #include <stddef.h>
 #include <stdint.h>

@@ -1,4 +1,5 @@
-/* The two images that document 01 writes out, and what it says of them. Every number here is read off that page. */
+/* The two images that document 01 writes out, a third made of the second, and what it says of them. Every number here is read off that
+ * page. */
 #include <stddef.h>
 #include <stdint.h>
 #include <stdio.h>
@@ -52,6 +53,40 @@ static void walks(void) {
     is("the second, untouched", list[1], 9);
 }
 
+/* "Each call judges the image lent to it", and an advance looks at "criteria with priority above the last one forwarded": one that
+ * gets the last one's number or a smaller one while the session runs is passed over. */
+static void another_image(uint8_t priority, uint32_t outcome) {
+    uint8_t other[sizeof one];
+    ifc_session session;
+    ifc_answer answer;
+    const uint8_t *request = (const uint8_t *)invite;
+    size_t length = sizeof invite - 1;
+    for (size_t i = 0; i < sizeof one; i++) other[i] = one[i];
+    other[19] = priority;
+    is("an opening", ifc_session_open(&session, 0), 0);
+    is("an advance", ifc_session_advance(&session, one, sizeof one, request, length, &answer), 0);
+    is("its priority", answer.priority, 5);
+    is("the report that the server sent it back", ifc_session_report(&session, IFC_RETURNED), 0);
+    is("an advance over another image", ifc_session_advance(&session, other, sizeof other, request, length, &answer), 0);
+    is("its outcome", answer.outcome, outcome);
+    is("what it examined", answer.examined, outcome == IFC_FORWARD);
+    is("the last priority", session.last, outcome == IFC_FORWARD ? priority : 5);
+}
+
+/* A part of no bytes may be NULL. */
+static void nothing_lent(void) {
+    uint32_t place = 9, count = 9, examined = 9, trials = 9;
+    const uint8_t *request = (const uint8_t *)registers;
+    size_t length = sizeof registers - 1;
+    is("no image", ifc_check(NULL, 0, &place), 2);
+    is("the place of the cut", place, 0);
+    is("no request", ifc_list(one, sizeof one, NULL, 0, 0, 0, NULL, 0, &place, &count, &examined, &trials), 7);
+    is("no place for one", ifc_list(one, sizeof one, request, length, 0, 0, NULL, 0, &place, &count, &examined, &trials), 12);
+    is("how many it examined", examined, 0);
+    is("no place for none", ifc_list(empty, sizeof empty, request, length, 0, 0, NULL, 0, &place, &count, &examined, &trials), 0);
+    is("how many it lists", count, 0);
+}
+
 int main(void) {
     uint32_t place = 9, start = 9, length = 9, present = 9;
     is("the empty profile's fault", ifc_check(empty, sizeof empty, &place), 0);
@@ -69,6 +104,10 @@ int main(void) {
     is("its presence", present, 0);
     is("no second criterion", ifc_server(one, sizeof one, 1, &place, &start, &length), 13);
     walks();
+    another_image(4, IFC_ROUTE);
+    another_image(5, IFC_ROUTE);
+    another_image(6, IFC_FORWARD);
+    nothing_lent();
     if (!wrong) puts("worked: ok");
     return wrong;
 }
