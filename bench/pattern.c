@@ -1,7 +1,9 @@
 /* Patterns on header names (fold) and header values: `pattern_lines` against plain C of the same algorithm and against the C
  * library's regexec on a pattern that was compiled before. The C library gets its lines cut beforehand. Then the reading of patterns
  * into places that are lent once: `lines_as_patterns` on a block of one pattern many times, with the empty text, against plain C and
- * against regcomp. Contenders that count differently stop the program. */
+ * against regcomp. Contenders that count differently stop the program.
+ *
+ * pattern count SIDE TIMES   one row by ours (even sides) or plain C (odd ones), for counting instructions from outside */
 #include <regex.h>
 #include <stddef.h>
 #include <stdint.h>
@@ -178,12 +180,16 @@ static void matching(const char *title, const char *const *texts, const char *co
     row("all", "", all, count);
 }
 
+static void lay_readings(const char *one) {
+    length = 0, count = 0;
+    for (int i = 0; i < READINGS; i++) add(one);
+}
+
 static void reading(const char *const *patterns, uint32_t folded) {
     char size[16];
     fold = folded;
     for (; *patterns; patterns++) {
-        length = 0, count = 0;
-        for (int i = 0; i < READINGS; i++) add(*patterns);
+        lay_readings(*patterns);
         snprintf(size, sizeof size, "%u", (unsigned)strlen(*patterns));
         row(*patterns, size, measure(&readers, 8), count);
     }
@@ -211,7 +217,25 @@ static void growing(void) {
     }
 }
 
-int main(void) {
+/* The five patterns on names, then those on values, matched and then read. Prints the side's name; nothing, if there is no such side. */
+static void count_side(uint32_t side, uint32_t times) {
+    uint32_t row = side / 2, on_value = row / 5 % 2, is_reading = row / 10;
+    if (row >= 20) return;
+    fold = !on_value;
+    pattern = (on_value ? on_values : on_names)[row % 5];
+    if (is_reading) lay_readings(pattern);
+    else lay(on_value ? values : names);
+    const struct contenders *of = is_reading ? &readers : &matchers;
+    for (uint32_t i = 0; i < times; i++) (side % 2 ? of->plain : of->ours)();
+    if (side % 2) printf("  plain C\n");
+    else printf("%s %s\n", is_reading ? "reading" : "matching", pattern);
+}
+
+int main(int argc, char **argv) {
+    if (argc > 3 && strcmp(argv[1], "count") == 0) {
+        count_side((uint32_t)strtoul(argv[2], NULL, 10), (uint32_t)strtoul(argv[3], NULL, 10));
+        return 0;
+    }
     matching("names, ns a line", names, on_names, 1);
     matching("values, ns a line", values, on_values, 0);
     head("reading a pattern, ns", "bytes", "regcomp");

@@ -156,8 +156,8 @@ static inline int is_met(const struct machine *m, uint64_t candidates, uint8_t b
 }
 
 /* Whether some part of a text that is not empty fits, where no empty one does. The scan runs from the end, so that what is live before
- * a byte follows from what is live behind it. It ends where a part begins, or where nothing can be live any more; where nothing is
- * live and one position alone may end a part, the door, it goes on at the next byte that this one meets. */
+ * a byte follows from what is live behind it. It ends where a part begins, or where nothing can be live any more; where no position
+ * may stand before a live one, and one alone may end a part, the door, it goes on at the next byte that this one meets. */
 static inline int scan_down(const struct machine *m, const uint8_t *text, size_t n, int door) {
     uint64_t next, candidates = m->ends;
     size_t i = n - 1;

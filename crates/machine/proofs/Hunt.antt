@@ -10,14 +10,14 @@ use lib.Dec.{T, eqb, ltb}
 use lib.ListN.{length, getD, drop}
 use lib.Seq.{drop-length}
 use borrow.Author.Tests.{ltb-true, ltb-false, lt-ltb, eq-eqb, ne-eqb, eqb-true, not-true, not-false}
-use Rattle.octets.specs.Bits.{bit}
+use Rattle.octets.specs.Bits.{bit, Below}
 use Rattle.octets.specs.Lists.{empty}
-use Rattle.octets.proofs.Bits.{bit-zero, bit-and, bit-drop, lowest-set, lowest-drop, or-none-left, or-none-right}
+use Rattle.octets.proofs.Bits.{bit-zero, bit-and, bit-drop, bit-inside, below-wider, lowest-set, lowest-drop, or-none-left, or-none-right}
 use Rattle.octets.proofs.Tests.{T-of, is-true, not-T-of, both, left, right, or-right, or-cases, or-neither}
-use Rattle.machine.specs.Machine.{Machine, Live, live-end, live-on, Starts, starts-none, starts-live, StartsAt, Found, first-mask, last-mask, null-at, null-somewhere, in-set, machine-of, Below, Closed, Stepped, SomeMet, Only, Shut, LastMet}
+use Rattle.machine.specs.Machine.{Machine, Live, live-end, live-on, Starts, starts-none, starts-live, StartsAt, Found, first-mask, last-mask, null-at, null-somewhere, in-set, has, machine-of, Closed, Stepped, SomeMet, Only, Shut, LastMet}
 use Rattle.machine.specs.declared.Shape.{Shape}
 use Rattle.machine.proofs.Places.{drop-at, empty-at}
-use Rattle.machine.proofs.Scan.{Scan, dead, met-in, in-met, scan-below, candidate-live, live-candidate, found-hit, found-miss, found-end, found-first-miss, found-neither, found-none, tested}
+use Rattle.machine.proofs.Scan.{Scan, dead, met-has, has-met, scan-below, candidate-live, live-candidate, found-hit, found-miss, found-end, found-first-miss, found-neither, found-none, tested}
 
 -- ---- a mask with one position
 
@@ -52,14 +52,18 @@ module _ (set text : List ℕ) (from : ℕ) where
   pub last-none : (i : ℕ) → i ≤ 0 → LastMet set text from i → LastMet set text from 0
   last-none i z s = let e : i ≡ 0 = omega arith in subst (λ (n : ℕ). LastMet set text from n) e s
 
+-- ---- whether the first byte shuts a text
+
+pub start-below : (h : Shape) (before : List ℕ) → Closed h before → Below 60 (h .start)
+start-below h before c = below-wider (h .size) 60 (h .start) (c .few) (c .starts)
+
 pub not-shut : (h : Shape) (sets : List (List ℕ)) (b : ℕ) → false ≡ true → Shut h sets b
 not-shut h sets b e = absurd (true≢false (sym e))
 
-pub start-below : (h : Shape) (before : List ℕ) → Closed h before → Below 60 (h .start)
-start-below h before c k t =
-    let few : h .size ≤ 60 = c .few in
-    let l : k < h .size = c .starts k t in
-    omega arith
+pub shut-start : (h : Shape) (sets : List (List ℕ)) (b : ℕ) (r : Bool) → h .inner ≡ 0 → SomeMet sets (h .start) b r → not r ≡ true → Shut h sets b
+shut-start h sets b r i w q = record { not-inner = i; not-start = w .no (not-true r q) }
+
+-- ---- the scan
 
 -- the bytes above i are read, no part begins there, and these are the candidates for the byte at i
 pub record Hunt (h : Shape) (sets : List (List ℕ)) (before text : List ℕ) (candidates i : ℕ) : Type 0 where
@@ -73,14 +77,9 @@ module _ (h : Shape) (sets : List (List ℕ)) (before : List ℕ) where
   abbrev M : Machine
   M = machine-of h sets before
 
-  -- ---- a text that no part can begin
-
-  pub shut-start : (b : ℕ) (r : Bool) → h .inner ≡ 0 → SomeMet sets (h .start) b r → not r ≡ true → Shut h sets b
-  shut-start b r i w q = record { not-inner = i; not-start = w .no (not-true r q) }
-
   -- ---- where no position that may end a part meets the byte, nothing gets live
 
-  idle : (b : ℕ) → ((k : ℕ) → T (bit (h .stops) k) → in-set (getD sets k []) b ≡ false) → Stepped sets before (bitOr 0 (h .stops)) b 0 0 0
+  idle : (b : ℕ) → ((k : ℕ) → T (bit (h .stops) k) → has sets k b ≡ false) → Stepped sets before (bitOr 0 (h .stops)) b 0 0 0
   idle b unmet =
       record {
         kept = λ k. bit-zero k ∙ sym (none-at k (bit (h .stops) k) refl);
@@ -88,9 +87,9 @@ module _ (h : Shape) (sets : List (List ℕ)) (before : List ℕ) where
         forth = λ p q t u. absurd (not-T-of (bit-zero q) t);
       }
     where
-      none-at : (k : ℕ) (t : Bool) → bit (h .stops) k ≡ t → (bit (bitOr 0 (h .stops)) k && not (bit 0 k) && in-set (getD sets k []) b) ≡ false
+      none-at : (k : ℕ) (t : Bool) → bit (h .stops) k ≡ t → (bit (bitOr 0 (h .stops)) k && not (bit 0 k) && has sets k b) ≡ false
       none-at k true e = ap₂ (λ (a : Bool) (m : Bool). a && not (bit 0 k) && m) e (unmet k (T-of e)) ∙ and-false (true && not (bit 0 k))
-      none-at k false e = ap (λ (a : Bool). a && not (bit 0 k) && in-set (getD sets k []) b) e
+      none-at k false e = ap (λ (a : Bool). a && not (bit 0 k) && has sets k b) e
 
   module _ (text : List ℕ) where
     -- ---- the empty part
@@ -150,8 +149,8 @@ module _ (h : Shape) (sets : List (List ℕ)) (before : List ℕ) where
         without s = record { yes = λ e. absurd (true≢false (sym e)); no = λ e. record { within = omega arith; before = λ j l m v. at j m (ltb j (length text)) refl v; found = λ l. absurd (omega arith) } }
           where
             first-byte : (p : ℕ) (l : List ℕ) → T (bit (h .start) p) → Live M p (getD text 0 0 ∷ l) → ⊥
-            first-byte p l t (live-end m z) = s .not-start p t (met-in h sets before p (getD text 0 0) m)
-            first-byte p l t (live-on m f v) = s .not-start p t (met-in h sets before p (getD text 0 0) m)
+            first-byte p l t (live-end m z) = s .not-start p t (met-has (h .size) sets p (getD text 0 0) m)
+            first-byte p l t (live-on m f v) = s .not-start p t (met-has (h .size) sets p (getD text 0 0) m)
 
             begun-at : (j : ℕ) → j < length text → (a : Bool) → eqb j 0 ≡ a → Starts M a (getD text j 0 ∷ drop (j + 1) text) → ⊥
             begun-at j l a e (starts-none u) = not-T-of (no-null a j e l) u
@@ -176,11 +175,11 @@ module _ (h : Shape) (sets : List (List ℕ)) (before : List ℕ) where
 
         -- from i down to k, no position that may end a part meets a byte
         abbrev Idle : ℕ → ℕ → Type 0
-        Idle k i = (j : ℕ) → k ≤ j → j < i → (q : ℕ) → T (bit (h .stops) q) → in-set (getD sets q []) (getD text j 0) ≡ false
+        Idle k i = (j : ℕ) → k ≤ j → j < i → (q : ℕ) → T (bit (h .stops) q) → has sets q (getD text j 0) ≡ false
 
         -- the position `door` meets none of them, and no other may end a part
-        unmet : (door k i : ℕ) → ((q : ℕ) → T (bit (h .stops) q) → q ≡ door) → ((j : ℕ) → k ≤ j → j < i → in-set (getD sets door []) (getD text j 0) ≡ false) → Idle k i
-        unmet door k i one out j a b q t = ap (λ (p : ℕ). in-set (getD sets p []) (getD text j 0)) (one q t) ∙ out j a b
+        unmet : (door k i : ℕ) → ((q : ℕ) → T (bit (h .stops) q) → q ≡ door) → ((j : ℕ) → k ≤ j → j < i → has sets door (getD text j 0) ≡ false) → Idle k i
+        unmet door k i one out j a b q t = ap (λ (p : ℕ). has sets p (getD text j 0)) (one q t) ∙ out j a b
 
         quiet : (i k n : ℕ) → k + n ≡ i → i < length text → Scan h sets before text i 0 (length text + 1) → Idle k i → Scan h sets before text k 0 (length text + 1)
         quiet i k zero e l s out = let z : i ≡ k = omega arith in subst (λ (m : ℕ). Scan h sets before text m 0 (length text + 1)) z s
@@ -214,8 +213,8 @@ module _ (h : Shape) (sets : List (List ℕ)) (before : List ℕ) where
 
     -- of the candidates for the first byte, those that may begin a part
     pub first-below : (candidates i : ℕ) → Hunt h sets before text candidates i → Below 60 (bitAnd (h .start) candidates)
-    first-below candidates i s k t =
-        hunt-below candidates i s k (right (bit (h .start) k) (bit candidates k) (subst T (bit-and (h .start) candidates k) t))
+    first-below candidates i s k past =
+        bit-and (h .start) candidates k ∙ ap (λ (t : Bool). bit (h .start) k && t) (hunt-below candidates i s k past) ∙ and-false (bit (h .start) k)
 
     -- the byte at i is read
     module _ (candidates i : ℕ) (s : Hunt h sets before text candidates i) (live next : ℕ) (w : Stepped sets before candidates (getD text i 0) 0 live next) where
@@ -257,14 +256,14 @@ module _ (h : Shape) (sets : List (List ℕ)) (before : List ℕ) where
                 bare = s .bare;
               }
 
-          -- nothing is live, and nothing further down will be
+          -- no position may stand before a live one, and none may end a part further down
           pub hunt-dead : bitOr next (h .stops) ≡ 0 → Found M text false
           hunt-dead e =
               found-none h sets before text 0 0 zero-le
               (quiet some (s .bare) i 0 i (omega arith) (s .inside) (subst (λ (m : ℕ). Scan h sets before text i m (length text + 1)) (or-none-left next (h .stops) e) scan-here)
               (λ j a b q t. absurd (not-T-of (ap (λ (m : ℕ). bit m q) (or-none-right next (h .stops) e) ∙ bit-zero q) t)))
 
-          -- nothing is live, and the one position that may end a part meets no byte above r
+          -- no position may stand before a live one, and the one that may end a part meets no byte above r
           pub hunt-skip : next ≡ 0 → (door r : ℕ) → Only (h .stops) door → door < 60 → LastMet (getD sets door []) text (i - 1) r → Hunt h sets before text (bitOr next (h .stops)) r
           hunt-skip e door r one d m =
               let w : r ≤ i - 1 = m .within in
@@ -294,21 +293,21 @@ module _ (h : Shape) (sets : List (List ℕ)) (before : List ℕ) where
       here : drop 0 text ≡ getD text 0 0 ∷ drop 1 text
       here = drop-at text 0 (s .inside)
 
-      begins-first : (p : ℕ) → T (bit (bitAnd (h .start) candidates) p) → T (in-set (getD sets p []) (getD text 0 0)) → StartsAt M text 0
+      begins-first : (p : ℕ) → T (bit (bitAnd (h .start) candidates) p) → T (has sets p (getD text 0 0)) → StartsAt M text 0
       begins-first p t m =
           let c : T (bit (h .start) p && bit candidates p) = subst T (bit-and (h .start) candidates p) t in
           let first : T (bit (h .start) p) = left (bit (h .start) p) (bit candidates p) c in
           subst⁻¹ (λ (l : List ℕ). Starts M true l) here
           (starts-live first
           (candidate-live h sets before (getD text 0 0) (s .scan .live) (s .next) stop (drop 1 text) (s .scan .bits) stop-is p
-          (subst (λ (n : ℕ). T (bit n p)) candidates-are (right (bit (h .start) p) (bit candidates p) c)) (in-met h sets before p (getD text 0 0) (s .scan .closed .starts p first) m)))
+          (subst (λ (n : ℕ). T (bit n p)) candidates-are (right (bit (h .start) p) (bit candidates p) c)) (has-met (h .size) sets p (getD text 0 0) (bit-inside (h .size) (h .start) p (s .scan .closed .starts) first) m)))
 
       not-first : r ≡ false → Starts M true (getD text 0 0 ∷ drop 1 text) → ⊥
       not-first e (starts-none u) = not-T-of (no-null (λ z. let l : 0 < length text = s .inside in absurd (omega arith)) (s .bare) true 0 refl (s .inside)) u
       not-first e (starts-live {p = p} f v) =
           let c = live-candidate h sets before (getD text 0 0) (s .scan .live) (s .next) stop (drop 1 text) (s .scan .bits) stop-is p v in
           w .no e p
-          (subst⁻¹ T (bit-and (h .start) candidates p) (both (bit (h .start) p) (bit candidates p) f (subst⁻¹ (λ (n : ℕ). T (bit n p)) candidates-are (c .0)))) (met-in h sets before p (getD text 0 0) (c .1))
+          (subst⁻¹ T (bit-and (h .start) candidates p) (both (bit (h .start) p) (bit candidates p) f (subst⁻¹ (λ (n : ℕ). T (bit n p)) candidates-are (c .0)))) (met-has (h .size) sets p (getD text 0 0) (c .1))
 
       first-byte : Found M text r
       first-byte = go r refl

@@ -1,5 +1,5 @@
 -- A scan from the end keeps, as bits, the positions that are live before what has been read.
-use mathlib.Core.Path.{_≡_, refl, sym, ap, _∙_, subst, subst⁻¹}
+use mathlib.Core.Path.{_≡_, refl, sym, ap, ap₂, _∙_, subst, subst⁻¹}
 use mathlib.Core.Bool.{Bool, true, false, not, _&&_, _||_, true≢false}
 use mathlib.Core.List.{List, [], _∷_}
 use Prim.Native.Nat.{ℕ, _+_, _<_, _≤_}
@@ -9,11 +9,11 @@ use lib.Dec.{T, eqb, ltb}
 use lib.ListN.{length, getD, drop}
 use lib.Seq.{drop-length}
 use borrow.Author.Tests.{ltb-true, ltb-false, lt-ltb}
-use Rattle.octets.specs.Bits.{bit}
+use Rattle.octets.specs.Bits.{bit, Below}
 use Rattle.octets.specs.Lists.{pick, empty}
-use Rattle.octets.proofs.Bits.{bit-zero, bit-or, common, share}
+use Rattle.octets.proofs.Bits.{bit-zero, bit-or, bit-inside, below-wider, common, share}
 use Rattle.octets.proofs.Tests.{T-of, not-T-of, is-true, both, left, right, or-left, or-right, or-cases}
-use Rattle.machine.specs.Machine.{Machine, Live, live-end, live-on, Starts, starts-none, starts-live, StartsAt, Leftmost, Found, first-mask, last-mask, null-at, in-set, met, machine-of, Below, Closed, Stepped}
+use Rattle.machine.specs.Machine.{Machine, Live, live-end, live-on, Starts, starts-none, starts-live, StartsAt, Leftmost, Found, first-mask, last-mask, null-at, has, met, machine-of, Closed, Stepped}
 use Rattle.machine.specs.declared.Shape.{Shape}
 use Rattle.machine.proofs.Places.{drop-at, empty-at}
 
@@ -24,6 +24,21 @@ live-cons (live-on m f v) = tt
 
 pub dead : {M : Machine} {p : ℕ} → Live M p [] → ⊥
 dead v = live-cons v
+
+-- ---- a position that meets a byte, and its set
+
+module _ (size : ℕ) (sets : List (List ℕ)) (p b : ℕ) where
+  met-position : T (met size sets b p) → T (ltb p size)
+  unfolding met
+  met-position m = left (ltb p size) (has sets p b) m
+
+  pub met-has : T (met size sets b p) → T (has sets p b)
+  unfolding met
+  met-has m = right (ltb p size) (has sets p b) m
+
+  pub has-met : p < size → T (has sets p b) → T (met size sets b p)
+  unfolding met
+  has-met l m = both (ltb p size) (has sets p b) (T-of (lt-ltb p size l)) m
 
 module _ (h : Shape) (sets : List (List ℕ)) (before : List ℕ) where
   abbrev mach : Machine
@@ -46,21 +61,9 @@ module _ (h : Shape) (sets : List (List ℕ)) (before : List ℕ) where
       }
 
   -- a live position is one
-  met-position : (p b : ℕ) → T (met (h .size) sets b p) → T (ltb p (h .size))
-  unfolding met
-  met-position p b m = left (ltb p (h .size)) (in-set (getD sets p []) b) m
-
-  pub met-in : (p b : ℕ) → T (met (h .size) sets b p) → T (in-set (getD sets p []) b)
-  unfolding met
-  met-in p b m = right (ltb p (h .size)) (in-set (getD sets p []) b) m
-
-  pub in-met : (p b : ℕ) → p < h .size → T (in-set (getD sets p []) b) → T (met (h .size) sets b p)
-  unfolding met
-  in-met p b l m = both (ltb p (h .size)) (in-set (getD sets p []) b) (T-of (lt-ltb p (h .size) l)) m
-
   live-position : {p : ℕ} {l : List ℕ} → Live mach p l → T (ltb p (h .size))
-  live-position (live-end {p = p} {b = b} m z) = met-position p b m
-  live-position (live-on {p = p} {b = b} m f v) = met-position p b m
+  live-position (live-end {p = p} {b = b} m z) = met-position (h .size) sets p b m
+  live-position (live-on {p = p} {b = b} m f v) = met-position (h .size) sets p b m
 
   module _ (b live next stop : ℕ) (l : List ℕ) (s : Scanned live next l) (e : stop ≡ last-mask h (empty l)) where
     abbrev meet : ℕ → Bool
@@ -81,19 +84,22 @@ module _ (h : Shape) (sets : List (List ℕ)) (before : List ℕ) where
         (subst⁻¹ T (bit-or next stop p) (or-left (bit next p) (bit stop p) (s .forth p q (s .complete q v) (right (ltb q (h .size)) (bit (getD before q 0) p) f))), m)
 
     -- a candidate is a position
-    pub candidates-below : Closed h before → Below (h .size) (bitOr next stop)
-    candidates-below c p t =
-        or-cases (bit next p) (bit stop p) (subst T (bit-or next stop p) t)
-        (λ u. let q = s .back p u in
-        c .befores (q .0) (ltb-true (q .0) (h .size) (is-true (ltb (q .0) (h .size)) (live-position (s .sound (q .0) (q .1))))) p (q .2))
-        (λ u. c .lasts (empty l) p (subst (λ (n : ℕ). T (bit n p)) e u))
+    candidates-below : Closed h before → Below (h .size) (bitOr next stop)
+    candidates-below c k past = bit-or next stop k ∙ ap₂ _||_ (go (bit next k) refl) (ap (λ (n : ℕ). bit n k) e ∙ c .lasts (empty l) k past)
+      where
+        go : (t : Bool) → bit next k ≡ t → bit next k ≡ false
+        go true f =
+            let q = s .back k (T-of f) in
+            let own : q .0 < h .size = ltb-true (q .0) (h .size) (is-true (ltb (q .0) (h .size)) (live-position (s .sound (q .0) (q .1)))) in
+            absurd (not-T-of (c .befores (q .0) own k past) (q .2))
+        go false f = f
 
     module _ (c : Closed h before) (live′ next′ : ℕ) (r : Stepped sets before (bitOr next stop) b 0 live′ next′) where
       abbrev candidate : ℕ → Bool
       candidate p = bit (bitOr next stop) p
 
       abbrev inside : ℕ → Bool
-      inside p = in-set (getD sets p []) b
+      inside p = has sets p b
 
       kept-is : (p : ℕ) → bit live′ p ≡ (candidate p && true && inside p)
       kept-is p = r .kept p ∙ ap (λ (t : Bool). candidate p && not t && inside p) (bit-zero p)
@@ -105,12 +111,12 @@ module _ (h : Shape) (sets : List (List ℕ)) (before : List ℕ) where
           sound-at p t =
               let k : T (candidate p && true && inside p) = subst T (kept-is p) t in
               let u : T (candidate p) = left (candidate p) true (left (candidate p && true) (inside p) k) in
-              candidate-live p u (in-met p b (candidates-below c p u) (right (candidate p && true) (inside p) k))
+              candidate-live p u (has-met (h .size) sets p b (bit-inside (h .size) (bitOr next stop) p (candidates-below c) u) (right (candidate p && true) (inside p) k))
 
           complete-at : (p : ℕ) → Live mach p (b ∷ l) → T (bit live′ p)
           complete-at p v =
               let k = live-candidate p v in
-              subst⁻¹ T (kept-is p) (both (candidate p && true) (inside p) (both (candidate p) true (k .0) tt) (met-in p b (k .1)))
+              subst⁻¹ T (kept-is p) (both (candidate p && true) (inside p) (both (candidate p) true (k .0) tt) (met-has (h .size) sets p b (k .1)))
 
   -- whether a part begins here, as code tests it
   abbrev test : Bool → Bool → ℕ → Bool
@@ -209,12 +215,11 @@ module _ (h : Shape) (sets : List (List ℕ)) (before : List ℕ) (text : List �
       go false q =
           record { closed = c; live = 0; inside = omega arith; bits = at-end; place = from-past M text (starts-not (length text) 0 0 true none-left at-end q) }
 
-  -- what is asked next
+  -- the candidates for the next byte
   pub scan-below : (i next r stop : ℕ) (s : Scan h sets before text i next r) → stop ≡ last-mask h (eqb i (length text)) → Below 60 (bitOr next stop)
-  scan-below i next r stop s e k t =
-      let few : h .size ≤ 60 = s .closed .few in
-      let l : k < h .size = candidates-below h sets before 0 (s .live) next stop (drop i text) (s .bits) (e ∙ ap (last-mask h) (sym (empty-at text i (s .inside)))) (s .closed) k t in
-      omega arith
+  scan-below i next r stop s e =
+      below-wider (h .size) 60 (bitOr next stop) (s .closed .few)
+      (candidates-below h sets before 0 (s .live) next stop (drop i text) (s .bits) (e ∙ ap (last-mask h) (sym (empty-at text i (s .inside)))) (s .closed))
 
   -- from i to j = i - 1
   module _ (i j next r stop live′ next′ : ℕ) (d : i ≡ j + 1) (s : Scan h sets before text i next r) (e : stop ≡ last-mask h (eqb i (length text)))

@@ -9,10 +9,10 @@ use lib.Count.{trailingZeros}
 use lib.Dec.{T, eqb, eqb→eq, eqb-refl}
 use lib.ListN.{getD}
 use borrow.Author.Tests.{eqb-true}
-use Rattle.octets.specs.Bits.{bit}
-use Rattle.octets.proofs.Bits.{bit-zero, bit-or, bit-add, bit-drop, drop-lt, lowest-set, lowest-drop, bit-below, shl-one}
+use Rattle.octets.specs.Bits.{bit, Below}
+use Rattle.octets.proofs.Bits.{bit-zero, bit-or, bit-inside, bit-add, bit-drop, drop-lt, lowest-set, lowest-drop, bit-below, shl-one}
 use Rattle.octets.proofs.Tests.{T-of, not-T-of, is-true, both, left, or-left, or-right, or-cases}
-use Rattle.machine.specs.Machine.{in-set, Below, Stepped, SomeMet}
+use Rattle.machine.specs.Machine.{has, Stepped, SomeMet}
 
 -- ---- the candidates, one by one
 
@@ -29,7 +29,7 @@ module _ (sets : List (List ℕ)) (before : List ℕ) (candidates b : ℕ) where
         among = λ k t. t;
         done =
             record {
-              kept = λ k. bit-zero k ∙ sym (none-taken (bit candidates k) (in-set (getD sets k []) b));
+              kept = λ k. bit-zero k ∙ sym (none-taken (bit candidates k) (has sets k b));
               back = λ p t. absurd (not-T-of (bit-zero p) t);
               forth = λ p q t u. absurd (not-T-of (bit-zero q) t);
             };
@@ -71,33 +71,33 @@ module _ (sets : List (List ℕ)) (before : List ℕ) (candidates b : ℕ) where
     step-among : (k : ℕ) → T (bit rest′ k) → T (bit candidates k)
     step-among k t = s .among k (left (bit rest k) (not (eqb k p)) (subst T (taken k) t))
 
-    pub lowest-candidate : T (bit candidates p)
+    lowest-candidate : T (bit candidates p)
     lowest-candidate = s .among p (T-of set-at)
 
     pub lowest-below : Below 60 candidates → p < 60
-    lowest-below few = few p lowest-candidate
+    lowest-below few = bit-inside 60 candidates p few lowest-candidate
 
     -- p was a candidate, and is now no longer left
-    module _ (m : Bool) (mp : in-set (getD sets p []) b ≡ m) where
-      kept-turn : (k : ℕ) (t : Bool) → eqb k p ≡ t → ((bit candidates k && not (bit rest k) && in-set (getD sets k []) b) || (t && m)) ≡ (bit candidates k && not (bit rest k && not t) && in-set (getD sets k []) b)
+    module _ (m : Bool) (mp : has sets p b ≡ m) where
+      kept-turn : (k : ℕ) (t : Bool) → eqb k p ≡ t → ((bit candidates k && not (bit rest k) && has sets k b) || (t && m)) ≡ (bit candidates k && not (bit rest k && not t) && has sets k b)
       kept-turn k true q =
           let z : k ≡ p = eqb-true k p q in
           let r : bit rest k ≡ true = ap (bit rest) z ∙ set-at in
           let c : bit candidates k ≡ true = is-true (bit candidates k) (s .among k (T-of r)) in
-          let f : in-set (getD sets k []) b ≡ m = ap (λ (j : ℕ). in-set (getD sets j []) b) z ∙ mp in
+          let f : has sets k b ≡ m = ap (λ (j : ℕ). has sets j b) z ∙ mp in
           ap₂ (λ (a : Bool) (d : Bool). (bit candidates k && not a && d) || m) r f
           ∙ ap (λ (a : Bool). (a && false && m) || m) c
           ∙ sym (ap₂ (λ (a : Bool) (d : Bool). bit candidates k && not (a && false) && d) r f ∙ ap (λ (a : Bool). a && true && m) c)
       kept-turn k false q =
-          or-false (bit candidates k && not (bit rest k) && in-set (getD sets k []) b)
-          ∙ ap (λ (a : Bool). bit candidates k && not a && in-set (getD sets k []) b) (sym (and-true (bit rest k)))
+          or-false (bit candidates k && not (bit rest k) && has sets k b)
+          ∙ ap (λ (a : Bool). bit candidates k && not a && has sets k b) (sym (and-true (bit rest k)))
 
-      kept-now : (k : ℕ) → (bit live k || (eqb k p && m)) ≡ (bit candidates k && not (bit rest′ k) && in-set (getD sets k []) b)
+      kept-now : (k : ℕ) → (bit live k || (eqb k p && m)) ≡ (bit candidates k && not (bit rest′ k) && has sets k b)
       kept-now k =
           ap (λ (a : Bool). a || (eqb k p && m)) (s .done .kept k) ∙ kept-turn k (eqb k p) refl
-          ∙ ap (λ (a : Bool). bit candidates k && not a && in-set (getD sets k []) b) (sym (taken k))
+          ∙ ap (λ (a : Bool). bit candidates k && not a && has sets k b) (sym (taken k))
 
-    pub step-skip : in-set (getD sets p []) b ≡ false → Stepping rest′ live next
+    pub step-skip : has sets p b ≡ false → Stepping rest′ live next
     step-skip mp =
         record {
           fits = step-fits;
@@ -116,7 +116,7 @@ module _ (sets : List (List ℕ)) (before : List ℕ) (candidates b : ℕ) where
     live-bit : (k : ℕ) → bit live′ k ≡ (bit live k || eqb k p)
     live-bit k = ap (λ (m : ℕ). bit (bitOr live m) k) shifted ∙ bit-add live p k
 
-    pub step-keep : in-set (getD sets p []) b ≡ true → Stepping rest′ live′ (bitOr next (getD before p 0))
+    pub step-keep : has sets p b ≡ true → Stepping rest′ live′ (bitOr next (getD before p 0))
     step-keep mp =
         record {
           fits = step-fits;
@@ -144,7 +144,7 @@ module _ (sets : List (List ℕ)) (before : List ℕ) (candidates b : ℕ) where
 -- ---- whether one of them meets the byte: none of those that were taken does, and so none is live
 
 module _ (sets : List (List ℕ)) (candidates b : ℕ) where
-  pub met-some : (rest : ℕ) (s : Stepping sets [] candidates b rest 0 0) (n : rest ≡ 0 → ⊥) (p : ℕ) → p ≡ trailingZeros 64 rest → in-set (getD sets p []) b ≡ true
+  pub met-some : (rest : ℕ) (s : Stepping sets [] candidates b rest 0 0) (n : rest ≡ 0 → ⊥) (p : ℕ) → p ≡ trailingZeros 64 rest → has sets p b ≡ true
       → SomeMet sets candidates b true
   met-some rest s n p e m =
       record { yes = λ q. (p, lowest-candidate sets [] candidates b rest 0 0 s n p e, T-of m); no = λ q. absurd (true≢false q) }
@@ -155,6 +155,6 @@ module _ (sets : List (List ℕ)) (candidates b : ℕ) where
       record {
         yes = λ q. absurd (true≢false (sym q));
         no = λ q p c m.
-            not-T-of (sym (all .kept p ∙ ap (λ (t : Bool). bit candidates p && not t && in-set (getD sets p []) b) (bit-zero p)) ∙ bit-zero p)
-            (both (bit candidates p && true) (in-set (getD sets p []) b) (both (bit candidates p) true c tt) m);
+            not-T-of (sym (all .kept p ∙ ap (λ (t : Bool). bit candidates p && not t && has sets p b) (bit-zero p)) ∙ bit-zero p)
+            (both (bit candidates p && true) (has sets p b) (both (bit candidates p) true c tt) m);
       }

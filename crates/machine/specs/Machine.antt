@@ -5,7 +5,7 @@ use mathlib.Core.List.{List, [], _∷_}
 use Prim.Native.Nat.{ℕ, _+_, _/_, _%_, _<_, _≤_}
 use lib.Dec.{T, eqb, ltb}
 use lib.ListN.{getD, drop, length}
-use Rattle.octets.specs.Bits.{bit}
+use Rattle.octets.specs.Bits.{bit, Below}
 use Rattle.octets.specs.Lists.{pick, empty}
 use Rattle.machine.specs.declared.Shape.{Shape}
 
@@ -60,10 +60,14 @@ null-at h a e = pick a (pick e (h .whole) (h .head)) (pick e (h .tail) (h .middl
 unfoldable pub in-set : List ℕ → ℕ → Bool
 in-set set b = bit (getD set (b / 64) 0) (b % 64)
 
+-- the set of p has the byte b
+abbrev pub has : List (List ℕ) → ℕ → ℕ → Bool
+has sets p b = in-set (getD sets p []) b
+
 -- the position p is one, and its set has the byte b
 unfoldable pub met : ℕ → List (List ℕ) → ℕ → ℕ → Bool
 unfolding in-set
-met size sets b p = ltb p size && in-set (getD sets p []) b
+met size sets b p = ltb p size && has sets p b
 
 abbrev pub machine-of : Shape → List (List ℕ) → List ℕ → Machine
 machine-of h sets before = record {
@@ -74,29 +78,26 @@ machine-of h sets before = record {
   null = null-at h;
 }
 
--- ---- one byte
-
--- a mask that has no bit from n on
-abbrev pub Below : ℕ → ℕ → Type 0
-Below n mask = (k : ℕ) → T (bit mask k) → k < n
-
--- what the scan takes for candidates are positions of the machine, which are at most 60
+-- The machine has at most 60 positions, and the masks whose bits code looks up a set for name no others: `start`, `ends`, `stops`, and
+-- what may stand before a position. (`inner` is only compared with what is live.)
 pub record Closed (h : Shape) (before : List ℕ) : Type 0 where
   pub few : h .size ≤ 60
   pub starts : Below (h .size) (h .start)
   pub lasts : (e : Bool) → Below (h .size) (last-mask h e)
   pub befores : (q : ℕ) → q < h .size → Below (h .size) (getD before q 0)
 
+-- ---- one byte
+
 -- Of the candidates that are no longer left: `live` are those that meet the byte, `next` those that may stand before a live one.
 pub record Stepped (sets : List (List ℕ)) (before : List ℕ) (candidates b left live next : ℕ) : Type 0 where
-  pub kept : (k : ℕ) → bit live k ≡ (bit candidates k && not (bit left k) && in-set (getD sets k []) b)
+  pub kept : (k : ℕ) → bit live k ≡ (bit candidates k && not (bit left k) && has sets k b)
   pub back : (p : ℕ) → T (bit next p) → (q : ℕ) × T (bit live q) × T (bit (getD before q 0) p)
   pub forth : (p q : ℕ) → T (bit live q) → T (bit (getD before q 0) p) → T (bit next p)
 
 -- whether some candidate meets the byte
 pub record SomeMet (sets : List (List ℕ)) (candidates b : ℕ) (r : Bool) : Type 0 where
-  pub yes : r ≡ true → (p : ℕ) × T (bit candidates p) × T (in-set (getD sets p []) b)
-  pub no : r ≡ false → (p : ℕ) → T (bit candidates p) → T (in-set (getD sets p []) b) → ⊥
+  pub yes : r ≡ true → (p : ℕ) × T (bit candidates p) × T (has sets p b)
+  pub no : r ≡ false → (p : ℕ) → T (bit candidates p) → T (has sets p b) → ⊥
 
 -- ---- what a test need not look at
 
@@ -108,7 +109,7 @@ null-somewhere h n = (h .head || h .tail) || (h .middle && ltb 1 n)
 -- begin it meets b.
 pub record Shut (h : Shape) (sets : List (List ℕ)) (b : ℕ) : Type 0 where
   pub not-inner : h .inner ≡ 0
-  pub not-start : (p : ℕ) → T (bit (h .start) p) → T (in-set (getD sets p []) b) → ⊥
+  pub not-start : (p : ℕ) → T (bit (h .start) p) → T (has sets p b) → ⊥
 
 -- r, where it is a position, is the only one of the mask
 abbrev pub Only : ℕ → ℕ → Type 0

@@ -7,10 +7,12 @@ ghost use lib.Bits.{bitAnd};
 ghost use lib.Dec.{eqb};
 ghost use lib.ListN.{getD, length};
 ghost use Rattle.octets.specs.Lists.{pick};
-ghost use Rattle.machine.specs.Machine.{Below, Closed, Stepped, SomeMet, Leftmost, Found, Only, Shut, LastMet, first-mask, last-mask, null-at, null-somewhere, in-set, machine-of};
+ghost use Rattle.octets.specs.Bits.{Below};
+ghost use Rattle.machine.specs.Machine.{Closed, Stepped, SomeMet, Leftmost, Found, Only, Shut, LastMet, first-mask, last-mask, null-at, null-somewhere, has, machine-of};
 
-// Which positions may begin a part, at the text's start or elsewhere; which may end one, at the text's end or elsewhere; and
-// whether the empty part fits: as the whole text, at its start, at its end, or between.
+// How many positions there are, which the matching need not ask (`Closed`); which of them may begin a part, at the text's start or
+// elsewhere; which may end one, at the text's end or elsewhere; and whether the empty part fits: as the whole text, at its start, at its
+// end, or between.
 pub struct Shape {
     pub size: usize,
     pub start: u64,
@@ -32,7 +34,7 @@ pub struct Front {
 // Whether the set of position p has the byte b.
 fn has(sets: &[[u64; 4]; 60], p: usize, b: u8) -> bool
     requires { ⌜ p < 60 ⌝ }
-    ensures { λ r. ⌜ r ≡ in-set (getD (now (sets .entry)) p []) b ⌝ }
+    ensures { λ r. ⌜ r ≡ has (now (sets .entry)) p b ⌝ }
 {
     let w = (b / 64) as usize;
     let k = b % 64;
@@ -199,8 +201,8 @@ fn last_met(sets: &[[u64; 4]; 60], p: usize, text: &[u8], from: usize) -> usize
 }
 
 // Whether some part of a text that is not empty fits, where no empty one does: the same scan, which ends at the first place that it
-// finds, or where nothing can be live any more. Where nothing is live and one position alone may end a part, the door, it goes on at
-// the next byte that this one meets.
+// finds, or where nothing can be live any more. Where no position may stand before a live one, and one alone may end a part, the door,
+// it goes on at the next byte that this one meets.
 fn scan_down(h: Shape, sets: &[[u64; 4]; 60], before: &[u64; 60], text: &[u8], door: usize) -> bool
     requires { ⌜ Closed h (now before) × (length (now text) ≡ 0 → ⊥) × (null-somewhere h (length (now text)) ≡ false) × Only (h .stops) door ⌝ }
     ensures { λ r. ⌜ Found (machine-of h (now (sets .entry)) (now (before .entry))) (now (text .entry)) r ⌝ }

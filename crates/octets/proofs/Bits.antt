@@ -5,13 +5,13 @@ use Prim.Native.Nat.{ℕ, zero, suc, _+_, _*_, _-_, _/_, _%_, _^_, _<_, _≤_, m
 use native.Mathlib.Omega.{arith}
 use native.Mathlib.Nat.{mod-lt, mul-add-mod-self-right, mul-mod-left, mod-eq-of-lt, min-le-left, lt-of-le-of-lt, div-eq-of-lt, div-le-self, zero-div, pow-suc, div-self, div-one, add-comm, div-lt-iff-lt-mul, div-add-mod', le-refl, one-mul, mul-assoc, lt-of-lt-of-le, zero-add, add-zero}
 use native.Mathlib.Numerals.{add-one}
-use lib.Bits.{bitAnd, bitOr, bitXor, differ, and-step, or-step, xor-step, and-shr, or-shr, or-lt, xor-shr, and-mask, and-self, and-le-r, or-add-and, xor-add-and, or-shifted-r}
+use lib.Bits.{bitAnd, bitOr, bitXor, differ, and-step, or-step, xor-step, and-shr, or-shr, or-lt, xor-lt, xor-shr, and-mask, and-self, and-le-r, or-add-and, xor-add-and, or-shifted-r}
 use lib.Count.{trailingZeros, under}
 use lib.Dec.{T, T-not, eqb, ltb, leb}
 use lib.Pow.{pow-pos, pow-lt, pow-mono, pow-add, shl-shr, shr-shr}
 use borrow.Author.Tests.{eq-eqb, ne-eqb, eqb-true, eqb-false, ltb-true, ltb-false, lt-ltb, le-ltb, leb-true, leb-false}
 use borrow.Author.Count.{below-none, below-more}
-use Rattle.octets.specs.Bits.{bit, mask}
+use Rattle.octets.specs.Bits.{bit, Below, mask}
 use Rattle.octets.specs.Lists.{pick}
 use Rattle.octets.proofs.Tests.{both, left, right, T-of, is-true}
 
@@ -282,6 +282,18 @@ lowest-drop w n p h z e =
     let g : bitAnd n (n - 1) + 2 ^ p ≡ n = ap (λ (q : ℕ). bitAnd n (n - 1) + 2 ^ q) e ∙ lowest-gone w n h z in
     omega (arith, g, xor-add-and n (2 ^ p), and-pow n p s)
 
+-- ---- no bit from w on
+
+pub bit-inside : (w n k : ℕ) → Below w n → T (bit n k) → k < w
+bit-inside w n k b t = go (ltb k w) refl
+  where
+    go : (u : Bool) → ltb k w ≡ u → k < w
+    go true e = ltb-true k w e
+    go false e = absurd (true≢false (sym (is-true (bit n k) t) ∙ b k (ltb-false k w e)))
+
+pub below-wider : (w v n : ℕ) → w ≤ v → Below w n → Below v n
+below-wider w v n l b k h = b k (omega arith)
+
 -- ---- bits in common, as code tests them: `f & s != 0`
 
 pub common : (f s : ℕ) → T (not (eqb (bitAnd f s) 0)) → (q : ℕ) × T (bit f q) × T (bit s q)
@@ -363,6 +375,19 @@ mask-or w f g =
     mask-of w (bitOr (mask w f) (mask w g)) (λ k. f k || g k) (or-lt w (mask w f) (mask w g) (mask-lt w f) (mask-lt w g))
     (λ k h. bit-or (mask w f) (mask w g) k ∙ ap₂ (λ (x y : Bool). x || y) (mask-bit w f k h) (mask-bit w g k h))
 
+pub mask-ext : (w : ℕ) (f g : ℕ → Bool) → ((k : ℕ) → k < w → f k ≡ g k) → mask w f ≡ mask w g
+mask-ext w f g e = mask-of w (mask w f) g (mask-lt w f) (λ k h. mask-bit w f k h ∙ e k h)
+
+pub mask-with : (w : ℕ) (f : ℕ → Bool) (j : ℕ) → j < w → bitOr (mask w f) (2 ^ j) ≡ mask w (λ k. f k || eqb k j)
+mask-with w f j h =
+    mask-of w (bitOr (mask w f) (2 ^ j)) (λ k. f k || eqb k j) (or-lt w (mask w f) (2 ^ j) (mask-lt w f) (pow-lt h))
+    (λ k l. bit-add (mask w f) j k ∙ ap (λ (x : Bool). x || eqb k j) (mask-bit w f k l))
+
+pub mask-not : (w : ℕ) (f : ℕ → Bool) → bitXor (mask w f) (2 ^ w - 1) ≡ mask w (λ k. not (f k))
+mask-not w f =
+    mask-of w (bitXor (mask w f) (2 ^ w - 1)) (λ k. not (f k)) (xor-lt w (mask w f) (2 ^ w - 1) (mask-lt w f) (omega (arith, pow-pos w)))
+    (λ k h. bit-xor (mask w f) (2 ^ w - 1) k ∙ ap₂ (λ (x y : Bool). pick x (not y) y) (bit-ones w k ∙ lt-ltb k w h) (mask-bit w f k h))
+
 -- the bits below w
 pub bit-cut : (n w k : ℕ) → bit (n % 2 ^ w) k ≡ (bit n k && ltb k w)
 bit-cut n w k = ap (λ (x : ℕ). bit x k) (sym (and-mask n w)) ∙ bit-and n (2 ^ w - 1) k ∙ ap (λ (x : Bool). bit n k && x) (bit-ones w k)
@@ -391,7 +416,7 @@ ones-down w s =
 
 pub record Mask (f : ℕ → Bool) (q n : ℕ) : Type 0 where
   pub set : (k : ℕ) → k < q → bit n k ≡ f k
-  pub rest : (k : ℕ) → q ≤ k → bit n k ≡ false
+  pub rest : Below q n
 
 pub mask-none : (f : ℕ → Bool) → Mask f 0 0
 mask-none f = record { set = below-none (λ k. bit 0 k ≡ f k); rest = λ k h. bit-zero k }

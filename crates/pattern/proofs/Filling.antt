@@ -10,23 +10,19 @@ use lib.Dec.{eqb, leb, ltb}
 use lib.ListN.{length, getD, drop}
 use lib.Seq.{sets, sets-eq, length-sets}
 use borrow.Author.Tests.{leb-true, not-true, not-false}
-use Rattle.octets.specs.Bits.{bit}
 use Rattle.octets.specs.Lists.{pick, peek}
 use Rattle.octets.specs.Option.{_>>=_, holds}
-use Rattle.octets.proofs.Bits.{shl-one, bit-zero}
-use Rattle.octets.proofs.Tests.{not-T-of}
-use Rattle.machine.specs.Machine.{last-mask, Closed}
+use Rattle.octets.proofs.Bits.{shl-one}
 use Rattle.machine.specs.declared.Shape.{Shape}
 use Rattle.pattern.specs.Answers.{was-read, is-pattern}
 use Rattle.pattern.specs.Pattern.{Atom, Elem, Pattern}
 use Rattle.pattern.specs.Places.{map-got, body-of, start-of, stop-of, PieceAt}
-use Rattle.pattern.specs.Prepared.{starred, no-marks, may-lead, mark, marks, sets-of, befores, sets-after, befores-after, marks-of, ends-anchored, shape-by, no-shape, shape-of, read-front, FilledFor, Prepared, Ready}
+use Rattle.pattern.specs.Prepared.{starred, no-marks, may-lead, mark, marks, sets-of, befores, sets-after, befores-after, marks-of, ends-anchored, shape-by, no-shape, shape-of, read-so-far, FilledFor, Prepared, Ready}
 use Rattle.pattern.specs.Reading.{atom, elem, Body, read-pattern}
 use Rattle.pattern.specs.declared.edition1.Marks.{Marks}
 use Rattle.pattern.specs.declared.reader.Piece.{Piece}
-use Rattle.pattern.proofs.Agreeing.{pattern-closed}
 use Rattle.pattern.proofs.Elements.{repeats-at, behind-of, with-elem, Step, anchor-at, body-stop, body-more, finished, read-is, count-empty, starred-elem}
-use Rattle.pattern.proofs.Front.{Stands, front-parts}
+use Rattle.pattern.proofs.SoFar.{Stands, so-far-parts}
 use Rattle.pattern.proofs.Positions.{befores-length}
 
 -- ---- what was read
@@ -38,10 +34,13 @@ pub record Whole (s : List ℕ) : Type 0 where
   pub few : length (body .parts) ≤ 60
   pub is : read-pattern s ≡ some (record { at-start = eqb (peek s) 94; elems = body .parts; at-end = body .anchored })
 
-whole-of : (s : List ℕ) (n : length s ≡ 0 → ⊥) → is-pattern s ≡ true → Whole s
+whole-of : (s : List ℕ) → is-pattern s ≡ true → Whole s
 unfolding is-pattern
-whole-of s n e = go (body-of true (drop (start-of s) s)) refl
+whole-of s e = go (body-of true (drop (start-of s) s)) refl
   where
+    n : length s ≡ 0 → ⊥
+    n z = true≢false (sym e ∙ sym (count-empty s z))
+
     held : (b : Body) → body-of true (drop (start-of s) s) ≡ some b → (t : Bool) → leb (length (b .parts)) 60 ≡ t → Whole s
     held b q true l =
         record {
@@ -75,7 +74,7 @@ Fills s i first m = (w : Whole s) × Filling s w i first m
 
 pub fill-start : (s : List ℕ) (i : ℕ) → is-pattern s ≡ true → i ≡ start-of s → Fills s i true no-marks
 fill-start s i e q =
-    let w = whole-of s (λ z. true≢false (sym e ∙ sym (count-empty s z))) e in
+    let w = whole-of s e in
     (w, subst⁻¹ (λ (k : ℕ). Filling s w k true no-marks) q (record { rest = w .body; reads = w .reads; marked = refl; right = refl }))
 
 -- what the elements leave in a lent place
@@ -100,9 +99,9 @@ module _ (s : List ℕ) (w : Whole s) (i : ℕ) (first : Bool) (m : Marks) (f : 
         in
         let p : f .rest .parts ≡ [] = ap (λ (b : Body). b .parts) q in
         let few : length (w .body .parts) ≤ 60 = w .few in
-        let all : read-front s ≡ w .body .parts = front-parts true (drop (start-of s) s) (w .body) (w .reads) in
-        let room : length old-sets ≡ 60 = sym (length-sets old-sets 0 (sets-of fold (read-front s))) ∙ ap length (sym (st .sets-are)) ∙ ls in
-        let place : length old-before ≡ 60 = sym (length-sets old-before 0 (befores no-marks (read-front s))) ∙ ap length (sym (st .before-are)) ∙ lb in
+        let all : read-so-far s ≡ w .body .parts = so-far-parts true (drop (start-of s) s) (w .body) (w .reads) in
+        let room : length old-sets ≡ 60 = sym (length-sets old-sets 0 (sets-of fold (read-so-far s))) ∙ ap length (sym (st .sets-are)) ∙ ls in
+        let place : length old-before ≡ 60 = sym (length-sets old-before 0 (befores no-marks (read-so-far s))) ∙ ap length (sym (st .before-are)) ∙ lb in
         subst⁻¹ (λ (o : Option Pattern). FilledFor fold o m right old-sets ss old-before bs) (w .is)
         (record {
           all-marks = ap (marks m) (sym p) ∙ f .marked;
@@ -200,7 +199,7 @@ module _ (fold : Bool) (p : List ℕ) (r : Shape) (old-sets : List (List ℕ)) (
       → Prepared fold p r old-sets sets old-before before
   prepare-on sets before next m right n q g z =
       let y : is-pattern p ≡ true = sym e ∙ not-false t n in
-      let w = whole-of p (λ k. true≢false (sym y ∙ sym (count-empty p k))) y in
+      let w = whole-of p y in
       record {
         shape =
             z ∙ ap₂ (λ (k : Marks) (b : Bool). shape-by k (eqb next 94) b) (g .all-marks) (g .anchored)
@@ -217,35 +216,13 @@ pub prepared-ready : (fold : Bool) (p : List ℕ) (h : Shape) (old-sets sets : L
 prepared-ready fold p h old-sets sets old-before before q = record { old-sets = old-sets; old-before = old-before; prepared = q }
 
 -- a pattern has at most 60 elements
-few-elements : (p : List ℕ) (x : Pattern) → read-pattern p ≡ some x → length (x .elems) ≤ 60
+pub few-elements : (p : List ℕ) (x : Pattern) → read-pattern p ≡ some x → length (x .elems) ≤ 60
 unfolding is-pattern
 few-elements p x e =
     let y : is-pattern p ≡ true = ap was-read e in
-    let w = whole-of p (λ k. true≢false (sym y ∙ sym (count-empty p k))) y in
+    let w = whole-of p y in
     let q : _≡_ {A = Option Pattern} (some x) (some (record { at-start = eqb (peek p) 94; elems = w .body .parts; at-end = w .body .anchored })) = sym e ∙ w .is in
     let z : x ≡ record { at-start = eqb (peek p) 94; elems = w .body .parts; at-end = w .body .anchored } = cc in
     let n : length (x .elems) ≡ length (w .body .parts) = ap (λ (k : Pattern). length (k .elems)) z in
     let f : length (w .body .parts) ≤ 60 = w .few in
     omega arith
-
--- the machine that takes no part has no position
-none-closed : (before : List ℕ) → Closed no-shape before
-none-closed before = record {
-  few = omega arith;
-  starts = λ k t. absurd (not-T-of (bit-zero k) t);
-  lasts = λ e k t. absurd (not-T-of (lost e k) t);
-  befores = λ q l. absurd (omega arith);
-}
-  where
-    lost : (e : Bool) (k : ℕ) → bit (last-mask no-shape e) k ≡ false
-    lost true k = bit-zero k
-    lost false k = bit-zero k
-
-pub ready-closed : (fold : Bool) (p : List ℕ) (h : Shape) (sets : List (List ℕ)) (before : List ℕ) → Ready fold p h sets before → Closed h before
-ready-closed fold p h sets before r =
-    subst⁻¹ (λ (x : List ℕ). Closed h x) (r .prepared .lent-before)
-    (subst⁻¹ (λ (k : Shape). Closed k (befores-after (read-pattern p) (r .old-before))) (r .prepared .shape) (go (read-pattern p) refl))
-  where
-    go : (o : Option Pattern) → read-pattern p ≡ o → Closed (shape-of o) (befores-after o (r .old-before))
-    go none e = none-closed (r .old-before)
-    go (some x) e = pattern-closed fold (x .at-start) (x .at-end) (x .elems) (r .old-sets) (drop (length (x .elems)) (r .old-before)) (few-elements p x e)

@@ -1,5 +1,5 @@
 -- The smallest place that the scan finds is the one that the definitions name, and it is within the text exactly if the pattern matches.
-use mathlib.Core.Path.{_≡_, refl, sym, ap, _∙_, subst}
+use mathlib.Core.Path.{_≡_, refl, sym, ap, ap₂, _∙_, subst, subst⁻¹}
 use mathlib.Core.Bool.{Bool, true, false, not, _&&_, _||_, true≢false}
 use mathlib.Core.Option.{Option, none, some}
 use mathlib.Core.List.{List, [], _∷_}
@@ -8,10 +8,11 @@ use native.Mathlib.Omega.{arith}
 use lib.Dec.{T, eqb, eqb→eq, leb, ltb}
 use lib.ListN.{length, drop}
 use borrow.Author.Tests.{leb-true, leb-false, lt-leb, ltb-true, ltb-false, eqb-true, eqb-false, not-true, not-false}
+use Rattle.octets.specs.Bits.{bit}
 use Rattle.octets.specs.Lists.{pick}
 use Rattle.octets.proofs.Bits.{bit-zero}
 use Rattle.octets.proofs.Tests.{both, left, right, or-left, or-right, or-cases, T-of, not-T-of, is-true}
-use Rattle.machine.specs.Machine.{Starts, starts-none, starts-live, StartsAt, Leftmost, Found, machine-of}
+use Rattle.machine.specs.Machine.{Machine, Starts, starts-none, starts-live, StartsAt, Leftmost, Found, last-mask, machine-of, Closed}
 use Rattle.machine.specs.declared.Shape.{Shape}
 use Rattle.pattern.specs.Answers.{was-read, is-pattern, matches-as, read-matches, meets-text, outcome-of, outcome, meet-as, fits-from, smallest, first-of, first-fit}
 use Rattle.pattern.specs.Matching.{front, somewhere, matches, written-matches, name-matches}
@@ -20,8 +21,9 @@ use Rattle.pattern.specs.Prepared.{no-shape, shape-of, sets-after, befor
 use Rattle.pattern.specs.Reading.{read-pattern}
 use Rattle.pattern.specs.declared.Outcome.the-variants.{No, Yes, Refuse}
 use Rattle.machine.proofs.Agreeing.{Bytes, starts-at-agree, leftmost-agree}
-use Rattle.pattern.proofs.Agreeing.{pattern-agrees}
+use Rattle.pattern.proofs.Agreeing.{pattern-agrees, pattern-closed}
 use Rattle.pattern.proofs.Compiled.{compiled, starts-front, front-starts}
+use Rattle.pattern.proofs.Filling.{few-elements}
 
 -- ---- the smallest
 
@@ -151,6 +153,29 @@ module _ (fold start end : Bool) (es : List Elem) (s : List ℕ) where
 
 -- ---- what was prepared
 
+module _ (fold : Bool) (p : List ℕ) (h : Shape) (sets : List (List ℕ)) (before : List ℕ) (ready : Ready fold p h sets before) where
+  -- the machine is the pattern's
+  machine-is : machine-of h sets before
+      ≡ machine-of (shape-of (read-pattern p)) (sets-after fold (read-pattern p) (ready .old-sets)) (befores-after (read-pattern p) (ready .old-before))
+  machine-is =
+      let q = ready .prepared in
+      ap (λ (x : Shape). machine-of x sets before) (q .shape)
+      ∙ ap₂ (λ (x : List (List ℕ)) (y : List ℕ). machine-of (shape-of (read-pattern p)) x y) (q .lent-sets) (q .lent-before)
+
+  -- its masks name its own positions
+  pub ready-closed : Closed h before
+  ready-closed =
+      subst⁻¹ (λ (x : List ℕ). Closed h x) (ready .prepared .lent-before)
+      (subst⁻¹ (λ (k : Shape). Closed k (befores-after (read-pattern p) (ready .old-before))) (ready .prepared .shape) (go (read-pattern p) refl))
+    where
+      none-at : (e : Bool) (k : ℕ) → bit (last-mask no-shape e) k ≡ false
+      none-at true k = bit-zero k
+      none-at false k = bit-zero k
+
+      go : (o : Option Pattern) → read-pattern p ≡ o → Closed (shape-of o) (befores-after o (ready .old-before))
+      go none e = record { few = omega arith; starts = λ k past. bit-zero k; lasts = λ e k past. none-at e k; befores = λ q l. absurd (omega arith) }
+      go (some x) e = pattern-closed (x .elems) (drop (length (x .elems)) (ready .old-before)) (x .at-start) (x .at-end) (few-elements p x e)
+
 module _ (fold : Bool) (t : List ℕ) (r : ℕ) (bytes : Bytes t) where
   -- the machine with no position takes no part
   nothing : (sets : List (List ℕ)) (before : List ℕ) (a : Bool) (l : List ℕ) → Starts (machine-of no-shape sets before) a l → ⊥
@@ -180,11 +205,7 @@ module _ (fold : Bool) (t : List ℕ) (r : ℕ) (bytes : Bytes t) where
       → r ≡ first-fit fold p t
   unfolding first-fit
   found-first p h sets before ready l =
-      let q = ready .prepared in
-      found-as (read-pattern p) (ready .old-sets) (ready .old-before)
-      (subst (λ (x : List ℕ). Leftmost (machine-of (shape-of (read-pattern p)) (sets-after fold (read-pattern p) (ready .old-sets)) x) t r) (q .lent-before)
-      (subst (λ (x : List (List ℕ)). Leftmost (machine-of (shape-of (read-pattern p)) x before) t r) (q .lent-sets)
-      (subst (λ (x : Shape). Leftmost (machine-of x sets before) t r) (q .shape) l)))
+      found-as (read-pattern p) (ready .old-sets) (ready .old-before) (subst (λ (M : Machine). Leftmost M t r) (machine-is fold p h sets before ready) l)
 
 -- a pattern matches exactly if the smallest place lies within the text
 pub first-meets : (fold : Bool) (p t : List ℕ) → leb (first-fit fold p t) (length t) ≡ meets-text fold p t
@@ -204,10 +225,10 @@ place-meets fold p t r e = ap (λ (n : ℕ). leb n (length t)) e ∙ first-meets
 
 module _ (fold : Bool) (t : List ℕ) (bytes : Bytes t) where
   -- where a part begins, the pattern matches
-  met-at : (o : Option Pattern) (old-sets : List (List ℕ)) (old-before : List ℕ) (j : ℕ)
+  begun-meets : (o : Option Pattern) (old-sets : List (List ℕ)) (old-before : List ℕ) (j : ℕ)
       → StartsAt (machine-of (shape-of o) (sets-after fold o old-sets) (befores-after o old-before)) t j → read-matches fold o t ≡ true
-  met-at none old-sets old-before j v = absurd (nothing fold t 0 bytes old-sets old-before (eqb j 0) (drop j t) v)
-  met-at (some p) old-sets old-before j v =
+  begun-meets none old-sets old-before j v = absurd (nothing fold t 0 bytes old-sets old-before (eqb j 0) (drop j t) v)
+  begun-meets (some p) old-sets old-before j v =
       let a = pattern-agrees fold (p .at-start) (p .at-end) (p .elems) (drop (length (p .elems)) old-sets) (drop (length (p .elems)) old-before) in
       let f = starts-front (meet-as fold) (p .at-start) (p .at-end) (p .elems) (eqb j 0) (drop j t) (starts-at-agree t j a bytes v) in
       let w = fits-whole fold (p .at-start) (p .at-end) (p .elems) t j (p .at-start)
@@ -218,11 +239,7 @@ module _ (fold : Bool) (t : List ℕ) (bytes : Bytes t) where
     met-ready : (j : ℕ) → StartsAt (machine-of h sets before) t j → meets-text fold p t ≡ true
     unfolding meets-text
     met-ready j v =
-        let q = ready .prepared in
-        met-at (read-pattern p) (ready .old-sets) (ready .old-before) j
-        (subst (λ (x : List ℕ). StartsAt (machine-of (shape-of (read-pattern p)) (sets-after fold (read-pattern p) (ready .old-sets)) x) t j) (q .lent-before)
-        (subst (λ (x : List (List ℕ)). StartsAt (machine-of (shape-of (read-pattern p)) x before) t j) (q .lent-sets)
-        (subst (λ (x : Shape). StartsAt (machine-of x sets before) t j) (q .shape) v)))
+        begun-meets (read-pattern p) (ready .old-sets) (ready .old-before) j (subst (λ (M : Machine). StartsAt M t j) (machine-is fold p h sets before ready) v)
 
     pub found-meets : (r : Bool) → Found (machine-of h sets before) t r → r ≡ meets-text fold p t
     found-meets true f = let y = f .yes refl in sym (met-ready (y .0) (y .2))

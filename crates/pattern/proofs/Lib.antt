@@ -7,7 +7,6 @@ pub mod Drawing
 pub mod Elements
 pub mod Filling
 pub mod Finding
-pub mod Front
 pub mod Items
 pub mod Laying
 pub mod Listing
@@ -15,4 +14,5 @@ pub mod Loading
 pub mod Meaning
 pub mod Places
 pub mod Positions
+pub mod SoFar
 pub mod Words

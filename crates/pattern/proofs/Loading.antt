@@ -19,7 +19,7 @@ use Rattle.pattern.specs.declared.edition1.Marks.{Marks}
 use Rattle.pattern.specs.declared.reader.Piece.{Piece}
 use Rattle.pattern.proofs.Elements.{repeats-at, behind-of, anchor-at, stop-inside, stop-before, Counted, count-empty, count-start, count-lost, count-more, count-full, count-done}
 use Rattle.pattern.proofs.Positions.{at-bit, free-bit}
-use Rattle.pattern.proofs.Front.{Stands, Storing, stands-empty, stands-stop, stands-lost, stands-many, store-start, store-more}
+use Rattle.pattern.proofs.SoFar.{Stands, Storing, stands-empty, stands-stop, stands-lost, stands-many, store-start, store-more}
 use Rattle.pattern.proofs.Filling.{Fills, fill-start, fill-stop, fill-more, prepare-refused, prepare-on, prepared-ready}
 
 pub load-room : (n : ℕ) → n ≤ 60 → (n ≡ 60 → ⊥) → n < 60

@@ -9,9 +9,9 @@ use lib.Bits.{bitOr}
 use lib.Dec.{ltb}
 use lib.ListN.{length, getD}
 use borrow.Author.Tests.{eq-eqb, ne-eqb, ltb-true, ltb-false}
-use Rattle.octets.specs.Bits.{bit}
+use Rattle.octets.specs.Bits.{bit, Below}
 use Rattle.octets.specs.Lists.{pick}
-use Rattle.octets.proofs.Bits.{bit-zero, bit-pow, bit-add, bit-cut}
+use Rattle.octets.proofs.Bits.{bit-zero, bit-pow, bit-add, bit-cut, below-wider}
 use Rattle.pattern.specs.Pattern.{Elem}
 use Rattle.pattern.specs.Prepared.{starred, no-marks, may-lead, mark, before-at, marks, befores}
 use Rattle.pattern.specs.declared.edition1.Marks.{Marks}
@@ -53,37 +53,27 @@ pub mark-is : (m : Marks) (t : Bool) (run lead : ℕ) → run ≡ pick t (bitOr 
     → lead ≡ pick (t && may-lead m) (bitOr (m .lead) (2 ^ (m .at + 1))) (m .lead) → _≡_ {A = Marks} (record { at = m .at + 1; run = run; lead = lead }) (mark m t)
 mark-is m t run lead e q = ap₂ (λ (x y : ℕ). record { at = m .at + 1; run = x; lead = y }) e q
 
--- no bit from `at` on
-record Low (at n : ℕ) : Type 0 where
-  low : (k : ℕ) → at ≤ k → bit n k ≡ false
-
 -- ---- the masks with one position more
 
 up : (at p : ℕ) → at + suc p ≡ at + 1 + p
 up at p = omega arith
 
-module _ (at n : ℕ) (l : Low at n) where
+module _ (at n : ℕ) (l : Below at n) where
   with-below : (k : ℕ) → k < at → bit (bitOr n (2 ^ at)) k ≡ bit n k
   with-below k h = bit-add n at k ∙ ap (λ (t : Bool). bit n k || t) (ne-eqb k at (λ z. omega arith)) ∙ or-false (bit n k)
 
   with-at : bit (bitOr n (2 ^ at)) at ≡ true
   with-at = bit-add n at at ∙ ap (λ (t : Bool). bit n at || t) (eq-eqb at at refl) ∙ or-true (bit n at)
 
-  with-above : (k : ℕ) → at + 1 ≤ k → bit (bitOr n (2 ^ at)) k ≡ false
-  with-above k h = bit-add n at k ∙ ap₂ (λ (t u : Bool). t || u) (l .low k (omega arith)) (ne-eqb k at (λ z. omega arith))
+  with-low : Below (at + 1) (bitOr n (2 ^ at))
+  with-low k h = bit-add n at k ∙ ap₂ (λ (t u : Bool). t || u) (l k (omega arith)) (ne-eqb k at (λ z. omega arith))
 
-  with-low : Low (at + 1) (bitOr n (2 ^ at))
-  with-low = record { low = with-above }
-
-  same-low : Low (at + 1) n
-  same-low = record { low = λ k h. l .low k (omega arith) }
-
-pow-low : (at : ℕ) → Low (at + 1) (2 ^ at)
-pow-low at = record { low = λ k h. bit-pow at k ∙ ne-eqb k at (λ z. omega arith) }
+pow-low : (at : ℕ) → Below (at + 1) (2 ^ at)
+pow-low at k h = bit-pow at k ∙ ne-eqb k at (λ z. omega arith)
 
 -- the run of `mark`; and a mask with one position more where t says so, as its lead and what may come before
-module _ (at run : ℕ) (l : Low at run) where
-  run-low : (t : Bool) → Low (at + 1) (pick t (bitOr run (2 ^ at)) (2 ^ at))
+module _ (at run : ℕ) (l : Below at run) where
+  run-low : (t : Bool) → Below (at + 1) (pick t (bitOr run (2 ^ at)) (2 ^ at))
   run-low true = with-low at run l
   run-low false = pow-low at
 
@@ -95,9 +85,9 @@ module _ (at run : ℕ) (l : Low at run) where
   run-at true = with-at at run l
   run-at false = bit-pow at at ∙ eq-eqb at at refl
 
-  more-low : (t : Bool) → Low (at + 1) (pick t (bitOr run (2 ^ at)) run)
+  more-low : (t : Bool) → Below (at + 1) (pick t (bitOr run (2 ^ at)) run)
   more-low true = with-low at run l
-  more-low false = same-low at run l
+  more-low false = below-wider at (at + 1) run (omega arith) l
 
   more-below : (t : Bool) (k : ℕ) → k < at → bit (pick t (bitOr run (2 ^ at)) run) k ≡ bit run k
   more-below true k h = with-below at run l k h
@@ -105,7 +95,7 @@ module _ (at run : ℕ) (l : Low at run) where
 
   more-at : (t : Bool) → bit (pick t (bitOr run (2 ^ at)) run) at ≡ t
   more-at true = with-at at run l
-  more-at false = l .low at (omega arith)
+  more-at false = l at (omega arith)
 
 -- ---- the masks of the elements from `at` on
 
@@ -122,8 +112,8 @@ module _ (m : Marks) where
       ((k : ℕ) → k < m .at → bit (getD (befores m es) q 0) k ≡ (bit (m .run) k && leads es q))
       × ((p : ℕ) → bit (getD (befores m es) q 0) (m .at + p) ≡ follows es p q)
 
-runs : (m : Marks) (es : List Elem) → Low (m .at) (m .run) → Run m es
-runs m [] l = (λ k h. sym (and-true (bit (m .run) k)), λ p. l .low (m .at + p) (omega arith))
+runs : (m : Marks) (es : List Elem) → Below (m .at) (m .run) → Run m es
+runs m [] l = (λ k h. sym (and-true (bit (m .run) k)), λ p. l (m .at + p) (omega arith))
 runs m (e ∷ es) l =
     let ih = runs (mark m (starred e)) es (run-low (m .at) (m .run) l (starred e)) in (
       λ k h.
@@ -137,12 +127,12 @@ runs m (e ∷ es) l =
         ap (bit (marks m (e ∷ es) .run)) (add-zero (m .at)) ∙ low (m .at) (omega arith) ∙ ap (λ (t : Bool). t && free es) (run-at (m .at) (m .run) l (starred e))
     go low high (suc p) = ap (bit (marks m (e ∷ es) .run)) (up (m .at) p) ∙ high p
 
-leading : (m : Marks) (es : List Elem) → Low (m .at + 1) (m .lead) → Lead m es
+leading : (m : Marks) (es : List Elem) → Below (m .at + 1) (m .lead) → Lead m es
 leading m [] l = (λ k h. refl, go)
   where
     go : (p : ℕ) → bit (m .lead) (m .at + p) ≡ (may-lead m && opens [] p)
     go zero = ap (bit (m .lead)) (add-zero (m .at)) ∙ sym (and-true (may-lead m))
-    go (suc p) = l .low (m .at + suc p) (omega arith) ∙ sym (and-false (may-lead m))
+    go (suc p) = l (m .at + suc p) (omega arith) ∙ sym (and-false (may-lead m))
 leading m (e ∷ es) l =
     let ih = leading (mark m (starred e)) es (more-low (m .at + 1) (m .lead) l (starred e && may-lead m)) in
     (λ k h. ih .0 k (omega arith) ∙ more-below (m .at + 1) (m .lead) l (starred e && may-lead m) k (omega arith), λ p. go (ih .0) (ih .1) p)
@@ -158,13 +148,13 @@ leading m (e ∷ es) l =
         ∙ ap (λ (t : Bool). t && opens es p) (more-at (m .at + 1) (m .lead) l (starred e && may-lead m) ∙ and-comm (starred e) (may-lead m))
         ∙ and-assoc (may-lead m) (starred e) (opens es p)
 
-before-all : (m : Marks) (es : List Elem) (q : ℕ) → q < length es → Low (m .at) (m .run) → Before m es q
+before-all : (m : Marks) (es : List Elem) (q : ℕ) → q < length es → Below (m .at) (m .run) → Before m es q
 before-all m [] q h l = absurd (omega arith)
 before-all m (e ∷ es) zero h l = (λ k g. more-below (m .at) (m .run) l (starred e) k g ∙ sym (and-true (bit (m .run) k)), go)
   where
     go : (p : ℕ) → bit (before-at m (starred e)) (m .at + p) ≡ follows (e ∷ es) p zero
     go zero = ap (bit (before-at m (starred e))) (add-zero (m .at)) ∙ more-at (m .at) (m .run) l (starred e)
-    go (suc p) = more-low (m .at) (m .run) l (starred e) .low (m .at + suc p) (omega arith)
+    go (suc p) = more-low (m .at) (m .run) l (starred e) (m .at + suc p) (omega arith)
 before-all m (e ∷ es) (suc q) h l =
     let ih = before-all (mark m (starred e)) es q (omega arith) (run-low (m .at) (m .run) l (starred e)) in (
       λ k g.
@@ -182,8 +172,8 @@ before-all m (e ∷ es) (suc q) h l =
 
 -- ---- all elements
 
-zero-low : Low 0 0
-zero-low = record { low = λ k h. bit-zero k }
+zero-low : Below 0 0
+zero-low k h = bit-zero k
 
 pub ends-bit : (es : List Elem) (p : ℕ) → bit (marks no-marks es .run) p ≡ ends es p
 ends-bit es p = ap (bit (marks no-marks es .run)) (sym (zero-add p)) ∙ runs no-marks es zero-low .1 p
@@ -210,6 +200,23 @@ leads-past [] q h = refl
 leads-past (e ∷ es) zero h = absurd (omega arith)
 leads-past (e ∷ es) (suc q) h = ap (λ (t : Bool). starred e && t) (leads-past es q (omega arith)) ∙ and-false (starred e)
 
+pub ends-past : (es : List Elem) (p : ℕ) → length es ≤ p → ends es p ≡ false
+ends-past [] p h = refl
+ends-past (e ∷ es) zero h = absurd (omega arith)
+ends-past (e ∷ es) (suc p) h = ends-past es p (omega arith)
+
+pub precedes-past : (es : List Elem) (p q : ℕ) → length es ≤ p → follows es p q ≡ false
+precedes-past [] p q h = refl
+precedes-past (e ∷ es) zero q h = absurd (omega arith)
+precedes-past (e ∷ es) (suc p) zero h = refl
+precedes-past (e ∷ es) (suc p) (suc q) h = precedes-past es p q (omega arith)
+
+pub follows-past : (es : List Elem) (p q : ℕ) → length es ≤ q → follows es p q ≡ false
+follows-past [] p q h = refl
+follows-past (e ∷ es) p zero h = absurd (omega arith)
+follows-past (e ∷ es) zero (suc q) h = leads-past es q (omega arith)
+follows-past (e ∷ es) (suc p) (suc q) h = follows-past es p q (omega arith)
+
 pub leads-bit : (es : List Elem) (p : ℕ) → bit (marks no-marks es .lead % 2 ^ marks no-marks es .at) p ≡ leads es p
 leads-bit es p =
     bit-cut (marks no-marks es .lead) (marks no-marks es .at) p ∙ ap₂ (λ (t : Bool) (n : ℕ). t && ltb p n) (opens-bit es p) (size-is es)
@@ -234,20 +241,3 @@ free-bit es = opens-bit es (marks no-marks es .at) ∙ ap (opens es) (size-is es
 pub befores-length : (m : Marks) (es : List Elem) → length (befores m es) ≡ length es
 befores-length m [] = refl
 befores-length m (e ∷ es) = ap suc (befores-length (mark m (starred e)) es)
-
-pub ends-past : (es : List Elem) (p : ℕ) → length es ≤ p → ends es p ≡ false
-ends-past [] p h = refl
-ends-past (e ∷ es) zero h = absurd (omega arith)
-ends-past (e ∷ es) (suc p) h = ends-past es p (omega arith)
-
-pub precedes-past : (es : List Elem) (p q : ℕ) → length es ≤ p → follows es p q ≡ false
-precedes-past [] p q h = refl
-precedes-past (e ∷ es) zero q h = absurd (omega arith)
-precedes-past (e ∷ es) (suc p) zero h = refl
-precedes-past (e ∷ es) (suc p) (suc q) h = precedes-past es p q (omega arith)
-
-pub follows-past : (es : List Elem) (p q : ℕ) → length es ≤ q → follows es p q ≡ false
-follows-past [] p q h = refl
-follows-past (e ∷ es) p zero h = absurd (omega arith)
-follows-past (e ∷ es) zero (suc q) h = leads-past es q (omega arith)
-follows-past (e ∷ es) (suc p) (suc q) h = follows-past es p q (omega arith)

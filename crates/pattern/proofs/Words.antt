@@ -6,7 +6,7 @@ use mathlib.Core.List.{List, [], _∷_}
 use Prim.Native.Nat.{ℕ, zero, suc, _+_, _-_, _*_, _/_, _%_, _^_, _<_, _≤_}
 use native.Mathlib.Nat.{mod-lt, lt-of-le-of-lt}
 use native.Mathlib.Omega.{arith}
-use lib.Bits.{bitAnd, bitOr, bitXor, and-le-r, or-lt, xor-lt}
+use lib.Bits.{bitAnd, bitOr, bitXor, and-le-r, or-lt}
 use lib.Dec.{eqb, ltb, leb}
 use lib.ListN.{getD, set, replicate}
 use lib.Pow.{pow-lt, pow-pos, shl-exact}
@@ -14,34 +14,9 @@ use borrow.Author.Tests.{eqb-true, eqb-false, eq-eqb, ne-eqb, ltb-true, ltb-fals
 use Rattle.octets.specs.Bits.{bit, mask}
 use Rattle.octets.specs.Bytes.{within, lower, upper}
 use Rattle.octets.specs.Lists.{pick}
-use Rattle.octets.proofs.Bits.{bit-and, bit-or, bit-shr, bit-shl, bit-shl-low, bit-add, bit-pow, bit-xor, bit-zero, bit-ones, mask-bit, mask-lt, mask-of, mask-or, ones-up, ones-down, shl-one}
+use Rattle.octets.proofs.Bits.{bit-and, bit-or, bit-shr, bit-shl, bit-shl-low, bit-pow, bit-zero, bit-ones, mask-bit, mask-lt, mask-of, mask-or, mask-ext, mask-with, mask-not, ones-up, ones-down, shl-one}
 use Rattle.machine.specs.Machine.{in-set}
 use Rattle.pattern.specs.Sets.{word, words}
-
--- ---- masks of 64 bits
-
-mask-ext : (f g : ℕ → Bool) → ((k : ℕ) → k < 64 → f k ≡ g k) → mask 64 f ≡ mask 64 g
-mask-ext f g e = mask-of 64 (mask 64 f) g (mask-lt 64 f) (λ k h. mask-bit 64 f k h ∙ e k h)
-
-mask-with : (f : ℕ → Bool) (j : ℕ) → j < 64 → bitOr (mask 64 f) (2 ^ j) ≡ mask 64 (λ k. f k || eqb k j)
-mask-with f j h =
-    mask-of 64 (bitOr (mask 64 f) (2 ^ j)) (λ k. f k || eqb k j) (or-lt 64 (mask 64 f) (2 ^ j) (mask-lt 64 f) (pow-lt h))
-    (λ k l. bit-add (mask 64 f) j k ∙ ap (λ (x : Bool). x || eqb k j) (mask-bit 64 f k l))
-
--- all 64 bits, as code writes the number
-abbrev pub all-bits : ℕ
-all-bits = 18446744073709551615
-
-all-mask : mask 64 (λ k. true) ≡ all-bits
-unfolding mask
-all-mask = refl
-
-mask-not : (f : ℕ → Bool) → bitXor (mask 64 f) all-bits ≡ mask 64 (λ k. not (f k))
-mask-not f =
-    mask-of 64 (bitXor (mask 64 f) all-bits) (λ k. not (f k)) (xor-lt 64 (mask 64 f) all-bits (mask-lt 64 f) (omega arith))
-    (λ k h.
-    bit-xor (mask 64 f) all-bits k
-    ∙ ap₂ (λ (x y : Bool). pick x (not y) y) (ap (λ (n : ℕ). bit n k) (sym all-mask) ∙ mask-bit 64 (λ j. true) k h) (mask-bit 64 f k h))
 
 -- ---- words
 
@@ -69,7 +44,7 @@ unfolding words
 words-ext f g e = four-words g (same 0 (omega arith)) (same 1 (omega arith)) (same 2 (omega arith)) (same 3 (omega arith))
   where
     same : (i : ℕ) → i < 4 → word f i ≡ word g i
-    same i h = mask-ext (λ k. f (64 * i + k)) (λ k. g (64 * i + k)) (λ k l. e (64 * i + k) (omega arith))
+    same i h = mask-ext 64 (λ k. f (64 * i + k)) (λ k. g (64 * i + k)) (λ k l. e (64 * i + k) (omega arith))
 
 pub no-words : replicate 4 0 ≡ words (λ b. false)
 unfolding words mask
@@ -78,8 +53,12 @@ no-words = refl
 none-set : (f : ℕ → Bool) → ((k : ℕ) → k < 64 → f k ≡ false) → 0 ≡ mask 64 f
 none-set f e = mask-of 64 0 f (omega arith) (λ k h. bit-zero k ∙ sym (e k h))
 
+-- all 64 bits, as code writes the number
+abbrev pub all-bits : ℕ
+all-bits = 18446744073709551615
+
 all-set : (f : ℕ → Bool) → ((k : ℕ) → k < 64 → f k ≡ true) → all-bits ≡ mask 64 f
-all-set f e = sym all-mask ∙ mask-ext (λ k. true) f (λ k h. sym (e k h))
+all-set f e = mask-of 64 all-bits f (omega arith) (λ k h. bit-ones 64 k ∙ lt-ltb k 64 h ∙ sym (e k h))
 
 -- ---- one byte
 
@@ -115,7 +94,7 @@ module _ (from lo : ℕ) where
   all-from h = all-set (λ k. leb lo (from + k)) (λ k l. le-leb lo (from + k) (omega arith))
 
   pub some-from : from < lo → all-bits * 2 ^ (lo - from) % 2 ^ 64 ≡ mask 64 (λ k. leb lo (from + k))
-  some-from h = ones-up 64 (lo - from) ∙ mask-ext (leb (lo - from)) (λ k. leb lo (from + k)) (λ k l. at k (leb (lo - from) k) refl)
+  some-from h = ones-up 64 (lo - from) ∙ mask-ext 64 (leb (lo - from)) (λ k. leb lo (from + k)) (λ k l. at k (leb (lo - from) k) refl)
     where
       at : (k : ℕ) (t : Bool) → leb (lo - from) k ≡ t → leb (lo - from) k ≡ leb lo (from + k)
       at k true e = let l = leb-true (lo - from) k e in e ∙ sym (le-leb lo (from + k) (omega arith))
@@ -131,7 +110,7 @@ module _ (from hi : ℕ) where
   pub some-to : from ≤ hi → hi - from < 64 → all-bits / 2 ^ (63 - (hi - from)) ≡ mask 64 (λ k. leb (from + k) hi)
   some-to h g =
       ones-down 64 (63 - (hi - from))
-      ∙ mask-ext (λ k. ltb (63 - (hi - from) + k) 64) (λ k. leb (from + k) hi) (λ k l. at k (leb (from + k) hi) refl)
+      ∙ mask-ext 64 (λ k. ltb (63 - (hi - from) + k) 64) (λ k. leb (from + k) hi) (λ k l. at k (leb (from + k) hi) refl)
     where
       at : (k : ℕ) (t : Bool) → leb (from + k) hi ≡ t → ltb (63 - (hi - from) + k) 64 ≡ leb (from + k) hi
       at k true e = let l = leb-true (from + k) hi e in lt-ltb (63 - (hi - from) + k) 64 (omega arith) ∙ sym e
@@ -161,15 +140,15 @@ unfolding words
 other-words ws f e =
     rw e
     (four-words (λ b. not (eqb b 0) && not (f b))
-    (ap (λ (n : ℕ). bitXor n all-bits) (mask-with (λ k. f (64 * 0 + k)) 0 (omega arith)) ∙ mask-not (λ k. f (64 * 0 + k) || eqb k 0)
-    ∙ mask-ext (λ k. not (f (64 * 0 + k) || eqb k 0)) (λ k. not (eqb (64 * 0 + k) 0) && not (f (64 * 0 + k)))
+    (ap (λ (n : ℕ). bitXor n all-bits) (mask-with 64 (λ k. f (64 * 0 + k)) 0 (omega arith)) ∙ mask-not 64 (λ k. f (64 * 0 + k) || eqb k 0)
+    ∙ mask-ext 64 (λ k. not (f (64 * 0 + k) || eqb k 0)) (λ k. not (eqb (64 * 0 + k) 0) && not (f (64 * 0 + k)))
     (λ k l. turn (f (64 * 0 + k)) (eqb k 0) ∙ ap (λ (n : ℕ). not (eqb n 0) && not (f (64 * 0 + k))) (let z : k ≡ 64 * 0 + k = omega arith in z)))
     (flip 1 (λ z. omega arith)) (flip 2 (λ z. omega arith)) (flip 3 (λ z. omega arith)))
   where
     flip : (i : ℕ) → (i ≡ 0 → ⊥) → bitXor (word f i) all-bits ≡ word (λ b. not (eqb b 0) && not (f b)) i
     flip i n =
-        mask-not (λ k. f (64 * i + k))
-        ∙ mask-ext (λ k. not (f (64 * i + k))) (λ k. not (eqb (64 * i + k) 0) && not (f (64 * i + k)))
+        mask-not 64 (λ k. f (64 * i + k))
+        ∙ mask-ext 64 (λ k. not (f (64 * i + k))) (λ k. not (eqb (64 * i + k) 0) && not (f (64 * i + k)))
         (λ k h. sym (ap (λ (x : Bool). not x && not (f (64 * i + k))) (ne-eqb (64 * i + k) 0 (λ z. n (omega arith)))))
 
     turn : (x y : Bool) → not (x || y) ≡ (not y && not x)
@@ -311,7 +290,7 @@ module _ (f : ℕ → Bool) where
 
   -- no letter outside word 1
   outside : (i : ℕ) → (i ≡ 1 → ⊥) → word f i ≡ word both-forms i
-  outside i n = mask-ext (λ k. f (64 * i + k)) (λ k. both-forms (64 * i + k)) (λ k h. at k h (ltb i 1) refl)
+  outside i n = mask-ext 64 (λ k. f (64 * i + k)) (λ k. both-forms (64 * i + k)) (λ k h. at k h (ltb i 1) refl)
     where
       at : (k : ℕ) → k < 64 → (t : Bool) → ltb i 1 ≡ t → f (64 * i + k) ≡ both-forms (64 * i + k)
       at k h true e = let l = ltb-true i 1 e in plain-form (64 * i + k) (no-low 65 90 (64 * i + k) (omega arith)) (no-low 97 122 (64 * i + k) (omega arith))

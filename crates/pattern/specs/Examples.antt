@@ -12,29 +12,29 @@ use Rattle.pattern.specs.Pattern.{Pattern}
 use Rattle.pattern.specs.Reading.{read-pattern}
 use Rattle.pattern.specs.Matching.{written-matches, name-matches}
 
--- a pattern that is read; one that is refused; what it does on a text, and on a name
+-- a string that is refused; so many elements, which are refused or not; what a pattern does on a text, and on a name
 pub data Example : Type 0 where
-  is-read : String → Example
   is-refused : String → Example
   counted : ℕ → Bool → Example
   on : String → List ℕ → Bool → Example
+  on-bytes : List ℕ → List ℕ → Bool → Example
   on-name : String → String → Bool → Example
 
 abbrev passes : (Pattern → List ℕ → Bool) → Option Pattern → List ℕ → Bool → Bool
 passes test none s expected = false
 passes test (some p) s expected = agree expected (test p s)
 
--- `^`, n times `a*`, `$`
+-- n times `a*`, then `$`
 abbrev stars : ℕ → List ℕ
 stars zero = text "$"
 stars (suc n) = 97 ∷ 42 ∷ stars n
 
 unfoldable pub right : Example → Bool
 unfolding read-pattern written-matches name-matches
-right (is-read p) = was-read (read-pattern (text p))
 right (is-refused p) = not (was-read (read-pattern (text p)))
 right (counted n expected) = agree expected (was-read (read-pattern (94 ∷ stars n)))
 right (on p s expected) = passes written-matches (read-pattern (text p)) s expected
+right (on-bytes p s expected) = passes written-matches (read-pattern p) s expected
 right (on-name p s expected) = passes name-matches (read-pattern (text p)) (text s) expected
 
 unfoldable pub examples : List Example
@@ -121,6 +121,8 @@ examples =
     ∷ on "^.$" (0 ∷ []) false
     ∷ on "^[^a]$" (0 ∷ []) false
     ∷ on "^.$" (255 ∷ []) true
+    ∷ on-bytes (94 ∷ 0 ∷ 36 ∷ []) (0 ∷ []) true
+    ∷ on-bytes (94 ∷ 91 ∷ 0 ∷ 45 ∷ 9 ∷ 93 ∷ 36 ∷ []) (0 ∷ []) true
     -- on a name, after negation, both forms are tried
     ∷ on-name "^from$" "FROM" true
     ∷ on-name "^FROM$" "from" true

@@ -8,7 +8,7 @@ use lib.Dec.{eqb}
 use lib.ListN.{length, getD, drop}
 use Rattle.octets.specs.Lists.{pick, peek}
 use Rattle.pattern.specs.Pattern.{Range, Elem}
-use Rattle.pattern.specs.Reading.{Read, read, items, Body, body, front}
+use Rattle.pattern.specs.Reading.{Read, read, items, Body, body, so-far}
 use Rattle.pattern.specs.declared.reader.Item.{Item}
 use Rattle.pattern.specs.declared.reader.Piece.{Piece}
 
@@ -24,8 +24,8 @@ items-of first s = items (suc (length s)) first s
 abbrev pub body-of : Bool → List ℕ → Option Body
 body-of first s = body (suc (length s)) first s
 
-abbrev pub front-of : Bool → List ℕ → List Elem
-front-of first s = front (suc (length s)) first s
+abbrev pub so-far-of : Bool → List ℕ → List Elem
+so-far-of first s = so-far (suc (length s)) first s
 
 -- the first element begins behind the anchor `^`; none begins at a last `$`, or at the end
 abbrev pub start-of : List ℕ → ℕ

@@ -14,7 +14,7 @@ use Rattle.machine.specs.declared.Shape.{Shape}
 use Rattle.pattern.specs.Pattern.{Atom, Elem, once, star, Pattern}
 use Rattle.pattern.specs.Reading.{atom, read-pattern}
 use Rattle.pattern.specs.Answers.{is-pattern, meet-as}
-use Rattle.pattern.specs.Places.{map-got, front-of, start-of, PieceAt}
+use Rattle.pattern.specs.Places.{map-got, so-far-of, start-of, PieceAt}
 use Rattle.pattern.specs.Sets.{words}
 use Rattle.pattern.specs.declared.edition1.Marks.{Marks}
 
@@ -147,13 +147,13 @@ pub record Ready (fold : Bool) (p : List ℕ) (h : Shape) (sets : List (List ℕ
   pub prepared : Prepared fold p h old-sets sets old-before before
 
 -- the elements of a string from behind its `^`, up to its end, its `$` or its first fault
-abbrev pub read-front : List ℕ → List Elem
-read-front p = front-of true (drop (start-of p) p)
+abbrev pub read-so-far : List ℕ → List Elem
+read-so-far p = so-far-of true (drop (start-of p) p)
 
 -- what `load` leaves: with no pattern, a machine that takes no part whatever the lent places hold. It stores element after element, so
 -- they hold what was read by then; a 61st finds no place.
 pub record Loaded (fold : Bool) (p : List ℕ) (h : Shape) (old-sets sets : List (List ℕ)) (old-before before : List ℕ) : Type 0 where
   pub ready : Ready fold p h sets before
   pub prepared : is-pattern p ≡ true → Prepared fold p h old-sets sets old-before before
-  pub stored-sets : sets ≡ in-turn old-sets 0 (sets-of fold (read-front p))
-  pub stored-before : before ≡ in-turn old-before 0 (befores no-marks (read-front p))
+  pub stored-sets : sets ≡ in-turn old-sets 0 (sets-of fold (read-so-far p))
+  pub stored-before : before ≡ in-turn old-before 0 (befores no-marks (read-so-far p))

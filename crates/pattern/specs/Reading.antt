@@ -109,17 +109,17 @@ body (suc n) first (b ∷ s) = pick (eqb b 36 && empty s) (some (record { parts 
   some (record { parts = elem starred (a .got) ∷ more .parts; anchored = more .anchored }))
 
 -- what a reader has in hand where it stops: the elements before the end, the anchor or the first fault
-abbrev pub front-from : (List ℕ → List Elem) → Option (Read Atom) → List Elem
-front-from later none = []
-front-from later (some a) =
+abbrev pub so-far-from : (List ℕ → List Elem) → Option (Read Atom) → List Elem
+so-far-from later none = []
+so-far-from later (some a) =
     let starred : Bool = eqb (peek (a .rest)) 42 in
     elem starred (a .got) ∷ later (pick starred (drop 1 (a .rest)) (a .rest))
 
-unfoldable pub front : ℕ → Bool → List ℕ → List Elem
+unfoldable pub so-far : ℕ → Bool → List ℕ → List Elem
 unfolding items
-front zero first s = []
-front (suc n) first [] = []
-front (suc n) first (b ∷ s) = pick (eqb b 36 && empty s) [] (front-from (λ t. front n false t) (atom first b s))
+so-far zero first s = []
+so-far (suc n) first [] = []
+so-far (suc n) first (b ∷ s) = pick (eqb b 36 && empty s) [] (so-far-from (λ t. so-far n false t) (atom first b s))
 
 -- "the empty pattern" and "more than 60 elements (anchors not counted)" are refused; `^` is an anchor "only first"
 unfoldable pub read-pattern : List ℕ → Option Pattern

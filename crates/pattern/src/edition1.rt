@@ -16,7 +16,6 @@ use crate::reader::start_at;
 use crate::reader::stop_at;
 use crate::sets::folded;
 use crate::sets::folded_word;
-use crate::sets::unless;
 use machine::Shape;
 
 // Of the elements before the position `at`: those that may come right before it, and those that may come first, with `at` among
@@ -137,6 +136,16 @@ fn lay_atom(
     let set = set_as(fold, read);
     sets[at] = set;
     end
+}
+
+// The positions of a mask, or none where an anchor stands.
+fn unless(anchored: bool, positions: u64) -> u64
+    ensures { λ r. ⌜ r ≡ pick anchored 0 positions ⌝ }
+{
+    if anchored {
+        return 0;
+    }
+    positions
 }
 
 // The machine of all elements, with the anchors `^` and `$`.

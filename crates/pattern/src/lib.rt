@@ -103,13 +103,13 @@ pub enum Outcome {
 pub fn matches(p: &[u8], fold: bool, text: &[u8]) -> Outcome
     ensures { λ r. ⌜ r ≡ outcome fold (now (p .entry)) (now (text .entry)) ⌝ }
 {
-    if !is_pattern(p) {
-        return Outcome::Refuse;
-    }
     let none = [0u64; 4];
     let mut sets = [none; 60];
     let mut before = [0u64; 60];
     let h = prepare(p, fold, &mut sets, &mut before);
+    if !is_loaded(h) {
+        return Outcome::Refuse;
+    }
     if test(h, &sets, &before, p, fold, text) {
         return Outcome::Yes;
     }

@@ -5,7 +5,6 @@ ghost use Prim.Native.Nat.{ℕ, _+_};
 ghost use lib.Dec.{eqb, leb};
 ghost use Rattle.octets.specs.Bits.{mask};
 ghost use Rattle.octets.specs.Bytes.{within, lower, upper};
-ghost use Rattle.octets.specs.Lists.{pick};
 ghost use Rattle.pattern.specs.Sets.{word, words};
 
 // All bits of a word.
@@ -13,15 +12,6 @@ const ALL: u64 = 18446744073709551615;
 
 // The lowest 26 bits, one for each letter.
 const LETTERS: u64 = 67108863;
-
-pub(crate) fn unless(flag: bool, mask: u64) -> u64
-    ensures { λ r. ⌜ r ≡ pick flag 0 mask ⌝ }
-{
-    if flag {
-        return 0;
-    }
-    mask
-}
 
 // The set of one byte.
 pub(crate) fn only(c: u8) -> [u64; 4]

@@ -1,4 +1,4 @@
--- The two answers of the call.
+-- The two answers of `pattern_lines`.
 use mathlib.Core.Bool.{Bool, true, false, not}
 use mathlib.Core.List.{List}
 use mathlib.Core.Path.{_≡_, sym, ap, _∙_}

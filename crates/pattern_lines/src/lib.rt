@@ -58,8 +58,8 @@ fn count(
     n
 }
 
-// Whether a string is a pattern that matches the text, read into the lent places: by where its first part begins, so that C reaches
-// that, too.
+// Whether a string is a pattern that matches the text, read into the lent places: by where its first part begins, so that tests in C run
+// `first_match`.
 fn read_and_test(
     p: &[u8],
     fold: bool,

@@ -1,5 +1,4 @@
-use Rattle.pattern.proofs.Finding.{found-first}
-use Rattle.pattern.proofs.Filling.{ready-closed}
+use Rattle.pattern.proofs.Finding.{ready-closed, found-first}
 use Rattle.pattern.proofs.first_match.Statement.{statement}
 use Rattle.pattern.proofs.first_match.Tie as tie
 

@@ -1,5 +1,4 @@
-use Rattle.pattern.proofs.Finding.{found-meets}
-use Rattle.pattern.proofs.Filling.{ready-closed}
+use Rattle.pattern.proofs.Finding.{ready-closed, found-meets}
 use Rattle.pattern.proofs.test.Statement.{statement}
 use Rattle.pattern.proofs.test.Tie as tie
 

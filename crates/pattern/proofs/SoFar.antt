@@ -15,9 +15,9 @@ use Rattle.octets.specs.Option.{_>>=_}
 use Rattle.octets.proofs.Tests.{either}
 use Rattle.machine.proofs.Places.{drop-at, empty-at}
 use Rattle.pattern.specs.Pattern.{Atom, Elem}
-use Rattle.pattern.specs.Places.{map-got, body-of, front-of, start-of, stop-of, PieceAt}
-use Rattle.pattern.specs.Prepared.{starred, atom-of, no-marks, mark, before-at, set-as, sets-of, befores, read-front}
-use Rattle.pattern.specs.Reading.{Read, atom, elem, Body, body, front-from, front}
+use Rattle.pattern.specs.Places.{map-got, body-of, so-far-of, start-of, stop-of, PieceAt}
+use Rattle.pattern.specs.Prepared.{starred, atom-of, no-marks, mark, before-at, set-as, sets-of, befores, read-so-far}
+use Rattle.pattern.specs.Reading.{Read, atom, elem, Body, body, so-far-from, so-far}
 use Rattle.pattern.specs.declared.edition1.Marks.{Marks}
 use Rattle.pattern.specs.declared.reader.Piece.{Piece}
 use Rattle.pattern.proofs.Atoms.{piece-found, piece-lost, map-none, map-some}
@@ -27,40 +27,40 @@ use Rattle.pattern.proofs.Elements.{repeats-at, behind-of, anchor-at, b
 -- ---- the number only counts down
 
 from-ext : (s : List ℕ) (f g : List ℕ → List Elem) → ((t : List ℕ) → length t ≤ length s → f t ≡ g t) → (o : Option (Read Atom)) → Within s o
-    → front-from f o ≡ front-from g o
+    → so-far-from f o ≡ so-far-from g o
 from-ext s f g e none h = refl
 from-ext s f g e (some a) h =
     ap (λ (l : List Elem). elem (eqb (peek (a .rest)) 42) (a .got) ∷ l)
     (e (pick (eqb (peek (a .rest)) 42) (drop 1 (a .rest)) (a .rest))
     (either (λ (l : List ℕ). length l ≤ length s) (eqb (peek (a .rest)) 42) (drop 1 (a .rest)) (a .rest) (omega (arith, h, drop-le 1 (a .rest))) h))
 
-front-fuel : (n m : ℕ) (first : Bool) (s : List ℕ) → length s < n → length s < m → front n first s ≡ front m first s
-unfolding front
-front-fuel zero m first s hn hm = absurd (not-suc-le-zero hn)
-front-fuel (suc n) zero first s hn hm = absurd (not-suc-le-zero hm)
-front-fuel (suc n) (suc m) first [] hn hm = refl
-front-fuel (suc n) (suc m) first (b ∷ s) hn hm =
+so-far-fuel : (n m : ℕ) (first : Bool) (s : List ℕ) → length s < n → length s < m → so-far n first s ≡ so-far m first s
+unfolding so-far
+so-far-fuel zero m first s hn hm = absurd (not-suc-le-zero hn)
+so-far-fuel (suc n) zero first s hn hm = absurd (not-suc-le-zero hm)
+so-far-fuel (suc n) (suc m) first [] hn hm = refl
+so-far-fuel (suc n) (suc m) first (b ∷ s) hn hm =
     ap (λ (l : List Elem). pick (eqb b 36 && empty s) [] l)
-    (from-ext s (λ t. front n false t) (λ t. front m false t) (λ t k. front-fuel n m false t (omega (arith, k, hn)) (omega (arith, k, hm))) (atom first b s) (atom-within first b s))
+    (from-ext s (λ t. so-far n false t) (λ t. so-far m false t) (λ t k. so-far-fuel n m false t (omega (arith, k, hn)) (omega (arith, k, hm))) (atom first b s) (atom-within first b s))
 
-front-next : (first : Bool) (b : ℕ) (s : List ℕ) → front-of first (b ∷ s) ≡ pick (eqb b 36 && empty s) [] (front-from (λ t. front-of false t) (atom first b s))
-unfolding front
-front-next first b s =
+so-far-next : (first : Bool) (b : ℕ) (s : List ℕ) → so-far-of first (b ∷ s) ≡ pick (eqb b 36 && empty s) [] (so-far-from (λ t. so-far-of false t) (atom first b s))
+unfolding so-far
+so-far-next first b s =
     ap (λ (l : List Elem). pick (eqb b 36 && empty s) [] l)
-    (from-ext s (λ t. front (suc (length s)) false t) (λ t. front-of false t) (λ t k. front-fuel (suc (length s)) (suc (length t)) false t (omega (arith, k)) (omega arith)) (atom first b s) (atom-within first b s))
+    (from-ext s (λ t. so-far (suc (length s)) false t) (λ t. so-far-of false t) (λ t k. so-far-fuel (suc (length s)) (suc (length t)) false t (omega (arith, k)) (omega arith)) (atom first b s) (atom-within first b s))
 
 -- ---- where all is read, it is all
 
-step-parts : (body-later : List ℕ → Option Body) (front-later : List ℕ → List Elem) (b : Body)
-    → ((t : List ℕ) (m : Body) → body-later t ≡ some m → front-later t ≡ m .parts) → (t : Bool) (o : Option (Read Atom))
+step-parts : (body-later : List ℕ → Option Body) (so-far-later : List ℕ → List Elem) (b : Body)
+    → ((t : List ℕ) (m : Body) → body-later t ≡ some m → so-far-later t ≡ m .parts) → (t : Bool) (o : Option (Read Atom))
     → pick t (some (record { parts = []; anchored = true }))
     (o >>= (λ a. body-later (pick (eqb (peek (a .rest)) 42) (drop 1 (a .rest)) (a .rest)) >>= (λ more.
     some (record { parts = elem (eqb (peek (a .rest)) 42) (a .got) ∷ more .parts; anchored = more .anchored }))))
     ≡ some b
-    → pick t [] (front-from front-later o) ≡ b .parts
-step-parts body-later front-later b h true o e = ap (λ (x : Body). x .parts) (Option·some-injective (record { parts = []; anchored = true }) b e)
-step-parts body-later front-later b h false none e = absurd (let z : _≡_ {A = ℕ} 0 1 = cc in omega arith)
-step-parts body-later front-later b h false (some a) e = go (body-later left) refl e
+    → pick t [] (so-far-from so-far-later o) ≡ b .parts
+step-parts body-later so-far-later b h true o e = ap (λ (x : Body). x .parts) (Option·some-injective (record { parts = []; anchored = true }) b e)
+step-parts body-later so-far-later b h false none e = absurd (let z : _≡_ {A = ℕ} 0 1 = cc in omega arith)
+step-parts body-later so-far-later b h false (some a) e = go (body-later left) refl e
   where
     repeats : Bool
     repeats = eqb (peek (a .rest)) 42
@@ -69,21 +69,21 @@ step-parts body-later front-later b h false (some a) e = go (body-later left) re
     left = pick repeats (drop 1 (a .rest)) (a .rest)
 
     go : (o : Option Body) → body-later left ≡ o → (o >>= (λ more. some (record { parts = elem repeats (a .got) ∷ more .parts; anchored = more .anchored }))) ≡ some b
-        → elem repeats (a .got) ∷ front-later left ≡ b .parts
+        → elem repeats (a .got) ∷ so-far-later left ≡ b .parts
     go none q k = absurd (let z : _≡_ {A = ℕ} 0 1 = cc in omega arith)
     go (some m) q k =
         ap (λ (l : List Elem). elem repeats (a .got) ∷ l) (h left m q)
         ∙ ap (λ (x : Body). x .parts) (Option·some-injective (record { parts = elem repeats (a .got) ∷ m .parts; anchored = m .anchored }) b k)
 
-parts-by : (n : ℕ) (first : Bool) (s : List ℕ) (b : Body) → body n first s ≡ some b → front n first s ≡ b .parts
-unfolding body front
+parts-by : (n : ℕ) (first : Bool) (s : List ℕ) (b : Body) → body n first s ≡ some b → so-far n first s ≡ b .parts
+unfolding body so-far
 parts-by zero first s b e = absurd (let z : _≡_ {A = ℕ} 0 1 = cc in omega arith)
 parts-by (suc n) first [] b e = ap (λ (x : Body). x .parts) (Option·some-injective (record { parts = []; anchored = false }) b e)
 parts-by (suc n) first (c ∷ s) b e =
-    step-parts (body n false) (λ t. front n false t) b (λ t m q. parts-by n false t m q) (eqb c 36 && empty s) (atom first c s) e
+    step-parts (body n false) (λ t. so-far n false t) b (λ t m q. parts-by n false t m q) (eqb c 36 && empty s) (atom first c s) e
 
-pub front-parts : (first : Bool) (s : List ℕ) (b : Body) → body-of first s ≡ some b → front-of first s ≡ b .parts
-front-parts first s b e = parts-by (suc (length s)) first s b e
+pub so-far-parts : (first : Bool) (s : List ℕ) (b : Body) → body-of first s ≡ some b → so-far-of first s ≡ b .parts
+so-far-parts first s b e = parts-by (suc (length s)) first s b e
 
 -- ---- by place
 
@@ -91,7 +91,7 @@ front-parts first s b e = parts-by (suc (length s)) first s b e
 record Ahead (f : Atom → List ℕ) (s : List ℕ) (i : ℕ) (first : Bool) (end : ℕ) (set : List ℕ) : Type 0 where
   value : Atom
   drawing : f value ≡ set
-  left : front-of first (drop i s) ≡ elem (repeats-at s end) value ∷ front-of false (drop (behind-of s end) s)
+  left : so-far-of first (drop i s) ≡ elem (repeats-at s end) value ∷ so-far-of false (drop (behind-of s end) s)
 
 module _ (s : List ℕ) (i : ℕ) (first : Bool) (h : i < length s) where
   abbrev b : ℕ
@@ -100,15 +100,15 @@ module _ (s : List ℕ) (i : ℕ) (first : Bool) (h : i < length s) where
   abbrev rest : List ℕ
   rest = drop (i + 1) s
 
-  here-is : (t : Bool) → anchor-at s i ≡ t → front-of first (drop i s) ≡ pick t [] (front-from (λ u. front-of false u) (atom first b rest))
+  here-is : (t : Bool) → anchor-at s i ≡ t → so-far-of first (drop i s) ≡ pick t [] (so-far-from (λ u. so-far-of false u) (atom first b rest))
   here-is t e =
-      ap (front-of first) (drop-at s i h) ∙ front-next first b rest
-      ∙ ap (λ (x : Bool). pick x [] (front-from (λ u. front-of false u) (atom first b rest)))
+      ap (so-far-of first) (drop-at s i h) ∙ so-far-next first b rest
+      ∙ ap (λ (x : Bool). pick x [] (so-far-from (λ u. so-far-of false u) (atom first b rest)))
       (ap (λ (x : Bool). eqb b 36 && x) (empty-at s (i + 1) (omega arith)) ∙ e)
 
   module _ (f : Atom → List ℕ) (r : Piece) (a : PieceAt (map-got f (atom first b rest)) s i r) (e : anchor-at s i ≡ false) where
-    front-lost : r .end ≡ 0 → front-of first (drop i s) ≡ []
-    front-lost z = here-is false e ∙ ap (front-from (λ u. front-of false u)) (map-none f (atom first b rest) (piece-lost a z))
+    front-lost : r .end ≡ 0 → so-far-of first (drop i s) ≡ []
+    front-lost z = here-is false e ∙ ap (so-far-from (λ u. so-far-of false u)) (map-none f (atom first b rest) (piece-lost a z))
 
     front-more : (r .end ≡ 0 → ⊥) → Ahead f s i first (r .end) (r .set)
     front-more n =
@@ -117,8 +117,8 @@ module _ (s : List ℕ) (i : ℕ) (first : Bool) (h : i < length s) where
           value = g .value;
           drawing = g .drawing;
           left =
-              here-is false e ∙ ap (front-from (λ u. front-of false u)) (g .is)
-              ∙ ap (λ (l : List ℕ). elem (repeats-at s (r .end)) (g .value) ∷ front-of false l) (behind-drop (repeats-at s (r .end)) s (r .end));
+              here-is false e ∙ ap (so-far-from (λ u. so-far-of false u)) (g .is)
+              ∙ ap (λ (l : List ℕ). elem (repeats-at s (r .end)) (g .value) ∷ so-far-of false l) (behind-drop (repeats-at s (r .end)) s (r .end));
         }
 
 -- ---- stores past the end
@@ -138,17 +138,17 @@ sets-past (x ∷ vs) l k h =
 module _ (fold : Bool) (s : List ℕ) (old-sets : List (List ℕ)) (old-before : List ℕ) where
   -- what they hold where the reading stops
   pub record Stands (ss : List (List ℕ)) (bs : List ℕ) : Type 0 where
-    pub sets-are : ss ≡ sets old-sets 0 (sets-of fold (read-front s))
-    pub before-are : bs ≡ sets old-before 0 (befores no-marks (read-front s))
+    pub sets-are : ss ≡ sets old-sets 0 (sets-of fold (read-so-far s))
+    pub before-are : bs ≡ sets old-before 0 (befores no-marks (read-so-far s))
 
   -- and before: once the elements from i on are stored, too
   pub record Storing (i : ℕ) (first : Bool) (m : Marks) (ss : List (List ℕ)) (bs : List ℕ) : Type 0 where
-    pub sets-on : sets ss (m .at) (sets-of fold (front-of first (drop i s))) ≡ sets old-sets 0 (sets-of fold (read-front s))
-    pub before-on : sets bs (m .at) (befores m (front-of first (drop i s))) ≡ sets old-before 0 (befores no-marks (read-front s))
+    pub sets-on : sets ss (m .at) (sets-of fold (so-far-of first (drop i s))) ≡ sets old-sets 0 (sets-of fold (read-so-far s))
+    pub before-on : sets bs (m .at) (befores m (so-far-of first (drop i s))) ≡ sets old-before 0 (befores no-marks (read-so-far s))
 
   pub stands-empty : length s ≡ 0 → Stands old-sets old-before
   stands-empty e =
-      let z : read-front s ≡ [] = front-parts true (drop (start-of s) s) (record { parts = []; anchored = false }) (body-end s (start-of s) true (omega (arith, e))) in
+      let z : read-so-far s ≡ [] = so-far-parts true (drop (start-of s) s) (record { parts = []; anchored = false }) (body-end s (start-of s) true (omega (arith, e))) in
       record {
         sets-are = ap (λ (l : List Elem). sets old-sets 0 (sets-of fold l)) (sym z);
         before-are = ap (λ (l : List Elem). sets old-before 0 (befores no-marks l)) (sym z);
@@ -160,19 +160,19 @@ module _ (fold : Bool) (s : List ℕ) (old-sets : List (List ℕ)) (old-before :
       (subst⁻¹ (λ (k : Marks). Storing (start-of s) true k old-sets old-before) z (record { sets-on = refl; before-on = refl }))
 
   module _ (i : ℕ) (first : Bool) (m : Marks) (ss : List (List ℕ)) (bs : List ℕ) (f : Storing i first m ss bs) where
-    nothing-left : front-of first (drop i s) ≡ [] → Stands ss bs
+    nothing-left : so-far-of first (drop i s) ≡ [] → Stands ss bs
     nothing-left z = record {
       sets-are = ap (λ (l : List Elem). sets ss (m .at) (sets-of fold l)) (sym z) ∙ f .sets-on;
       before-are = ap (λ (l : List Elem). sets bs (m .at) (befores m l)) (sym z) ∙ f .before-on;
     }
 
     pub stands-stop : (stop : ℕ) → stop ≡ stop-of s → stop ≤ i → Stands ss bs
-    stands-stop stop q h = nothing-left (front-parts first (drop i s) (record { parts = []; anchored = ltb i (length s) }) (body-stop s i first stop q h))
+    stands-stop stop q h = nothing-left (so-far-parts first (drop i s) (record { parts = []; anchored = ltb i (length s) }) (body-stop s i first stop q h))
 
     pub stands-many : m .at ≡ 60 → length ss ≡ 60 → length bs ≡ 60 → Stands ss bs
     stands-many full ls lb = record {
-      sets-are = sym (sets-past (sets-of fold (front-of first (drop i s))) ss (m .at) (omega (arith, full, ls))) ∙ f .sets-on;
-      before-are = sym (sets-past (befores m (front-of first (drop i s))) bs (m .at) (omega (arith, full, lb))) ∙ f .before-on;
+      sets-are = sym (sets-past (sets-of fold (so-far-of first (drop i s))) ss (m .at) (omega (arith, full, ls))) ∙ f .sets-on;
+      before-are = sym (sets-past (befores m (so-far-of first (drop i s))) bs (m .at) (omega (arith, full, lb))) ∙ f .before-on;
     }
 
     module _ (h : i < length s) (e : anchor-at s i ≡ false) where
@@ -190,10 +190,10 @@ module _ (fold : Bool) (s : List ℕ) (old-sets : List (List ℕ)) (old-before :
             (subst⁻¹ (λ (k : Marks). Storing (behind-of s (r .end)) false k (set ss (m .at) (r .set)) (set bs (m .at) v)) em
             (record {
               sets-on =
-                  ap₂ (λ (k : ℕ) (y : List ℕ). sets (set ss (m .at) y) k (sets-of fold (front-of false (drop (behind-of s (r .end)) s)))) (add-one (m .at)) (sym draw)
+                  ap₂ (λ (k : ℕ) (y : List ℕ). sets (set ss (m .at) y) k (sets-of fold (so-far-of false (drop (behind-of s (r .end)) s)))) (add-one (m .at)) (sym draw)
                   ∙ ap (λ (l : List Elem). sets ss (m .at) (sets-of fold l)) (sym (x .left)) ∙ f .sets-on;
               before-on =
-                  ap₂ (λ (k : ℕ) (y : ℕ). sets (set bs (m .at) y) k (befores (mark m t) (front-of false (drop (behind-of s (r .end)) s)))) (add-one (m .at)) ev
-                  ∙ ap (λ (b : Bool). sets (set bs (m .at) (before-at m b)) (suc (m .at)) (befores (mark m b) (front-of false (drop (behind-of s (r .end)) s)))) (sym one)
+                  ap₂ (λ (k : ℕ) (y : ℕ). sets (set bs (m .at) y) k (befores (mark m t) (so-far-of false (drop (behind-of s (r .end)) s)))) (add-one (m .at)) ev
+                  ∙ ap (λ (b : Bool). sets (set bs (m .at) (before-at m b)) (suc (m .at)) (befores (mark m b) (so-far-of false (drop (behind-of s (r .end)) s)))) (sym one)
                   ∙ ap (λ (l : List Elem). sets bs (m .at) (befores m l)) (sym (x .left)) ∙ f .before-on;
             }))
