@@ -1,5 +1,6 @@
 -- What a lookup hands back is the string itself: the part of the image at its place is its bytes.
-use mathlib.Core.Option.{Option, some}
+use mathlib.Core.Bool.{true}
+use mathlib.Core.Option.{Option, none, some}
 use mathlib.Core.Path.{_≡_, sym, ap, _∙_, subst}
 use Prim.Native.Nat.{ℕ}
 use mathlib.Core.List.{List}
@@ -8,7 +9,8 @@ use Rattle.octets.proofs.Options.{Ok}
 use Rattle.octets.proofs.Each.{each-at}
 use Rattle.profile.specs.Image.{Stored, Criterion, Profile, Judged, accepted}
 use Rattle.profile.specs.Judging.{judge}
-use Rattle.lookups.specs.Lookups.{its-server, its-information, look-judged, look-at, the-part, server, information, part-of}
+use Rattle.lookups.specs.Lookups.{its-server, its-information, look-judged, look-at, no-part, the-part, server, information, part-of}
+use Rattle.lookups.specs.declared.Lookup.{Lookup}
 use Rattle.profile.proofs.Accepted.{Inside, Fine, Sound, accepted-sound}
 
 module _ (image : List ℕ) (p : Profile) (judged : judge image ≡ accepted p) (i : ℕ) (c : Criterion) (there : getElem? (p .criteria) i ≡ some c) where
@@ -31,3 +33,12 @@ module _ (image : List ℕ) (p : Profile) (judged : judge image ≡ accepted p) 
   information-part x e =
       let h : Inside image x = subst (Ok (Inside image)) e (is-fine .info-in) in
       ap (part-of image) (looked its-information ∙ ap the-part e) ∙ sym (h .stands)
+
+  -- it is said to be present exactly where there is some, empty or not
+  pub information-told : (x : Stored) → c .info ≡ some x → information image i .present ≡ true
+  unfolding information
+  information-told x e = ap (λ (l : Lookup). l .present) (looked its-information ∙ ap the-part e)
+
+  pub information-absent : c .info ≡ none → information image i ≡ no-part 0 0
+  unfolding information
+  information-absent e = looked its-information ∙ ap the-part e

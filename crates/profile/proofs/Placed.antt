@@ -1,4 +1,4 @@
--- A fault has a number above 0, and its place lies in the image: never beyond its end, and so at most 32,768.
+-- A fault has a number from 1 to 6, and its place lies in the image: never beyond its end, and so at most 32,768.
 use mathlib.Core.Bool.{Bool, true, false, not, _&&_}
 use mathlib.Core.Option.{Option, none, some}
 use mathlib.Core.Path.{_≡_, refl}
@@ -15,10 +15,14 @@ use Rattle.profile.specs.Reader.{Got, got, fault, Reader, _>>=_, and-the
 use Rattle.profile.specs.Image.{Stored, Test, header, description, Row, Member, Criterion, Profile, refused}
 use Rattle.profile.specs.Judging.{string, from-option, named, naming, naming-or-absent, as-uri, as-method, as-pattern, as-server, as-information, no-second, registration, uri-test, method-test, patterns-test, case-test, test-of, row, follows, last, member, memberships-of, all-rows-have, repeats, first-ok, count-ok, criterion, nothing-follows, profile, verdict, judge}
 
--- where a reading of s ends, or its fault's place, is within s, the fault's number is not 0, and P holds of what is read
+-- an image fault's number
+abbrev pub Fault : ℕ → Type 0
+Fault n = (0 < n) × (n ≤ 6)
+
+-- where a reading of s ends, or its fault's place, is within s, the fault's number is one, and P holds of what is read
 abbrev Within : {A : Type 0} → List ℕ → (A → Type 0) → Got A → Type 0
 Within s P (got a at) = (at ≤ length s) × P a
-Within s P (fault n place) = (place ≤ length s) × (0 < n)
+Within s P (fault n place) = (place ≤ length s) × Fault n
 
 abbrev Any : {A : Type 0} → A → Type 0
 Any a = Unit {0}
@@ -29,7 +33,7 @@ module _ (s : List ℕ) where
   then-within P Q (got a at) f h k = k a at (h .0) (h .1)
   then-within P Q (fault n place) f h k = h
 
-  unless-within : (ok : Bool) (n place at : ℕ) → 0 < n → place ≤ length s → at ≤ length s → Within s Any (unless ok n place s at)
+  unless-within : (ok : Bool) (n place at : ℕ) → Fault n → place ≤ length s → at ≤ length s → Within s Any (unless ok n place s at)
   unless-within true n place at z p h = (h, tt)
   unless-within false n place at z p h = (p, z)
 
@@ -39,7 +43,7 @@ module _ (s : List ℕ) where
     where
       go : (b : Bool) → leb (at + n) (length s) ≡ b → Within {A = A} s Any (and-then (pick b (got (tt {0}) at) (fault 2 (length s))) (λ u k. got (v k) (k + n)))
       go true e = (leb→le (at + n) (length s) (T-of e), tt)
-      go false e = (le-refl (length s), omega arith)
+      go false e = (le-refl (length s), (omega arith, omega arith))
 
   integer-within : (n at : ℕ) → Within s Any (integer n s at)
   integer-within n at = read-within n (λ k. number n s k 0) at
@@ -51,15 +55,15 @@ module _ (s : List ℕ) where
     field-within : (n : ℕ) (ok : ℕ → Bool) → Within s Any (field n ok s at)
     field-within n ok =
         then-within Any Any (integer n s at) _ (integer-within n at) (λ v k l u.
-        then-within Any Any (unless (ok v) 4 at s k) _ (unless-within (ok v) 4 at k (omega arith) h l) (λ w j m x. (m, tt)))
+        then-within Any Any (unless (ok v) 4 at s k) _ (unless-within (ok v) 4 at k (omega arith, omega arith) h l) (λ w j m x. (m, tt)))
 
-    from-within : {A : Type 0} (o : Option A) (n k : ℕ) → 0 < n → k ≤ length s → Within s Any (from-option o n at s k)
+    from-within : {A : Type 0} (o : Option A) (n k : ℕ) → Fault n → k ≤ length s → Within s Any (from-option o n at s k)
     from-within none n k z l = (h, z)
     from-within (some a) n k z l = (l, tt)
 
     named-within : {A : Type 0} (strings : List Stored) (as-used : Stored → Option A) (i k : ℕ) → k ≤ length s → Within s Any (named strings as-used i at s k)
     named-within strings as-used i k l =
-        then-within Any Any (from-option (getElem? strings i) 4 at s k) _ (from-within (getElem? strings i) 4 k (omega arith) l) (λ x j m u. from-within (as-used x) 5 j (omega arith) m)
+        then-within Any Any (from-option (getElem? strings i) 4 at s k) _ (from-within (getElem? strings i) 4 k (omega arith, omega arith) l) (λ x j m u. from-within (as-used x) 5 j (omega arith, omega arith) m)
 
     naming-within : {A : Type 0} (strings : List Stored) (as-used : Stored → Option A) → Within s Any (naming strings as-used s at)
     naming-within strings as-used = then-within Any Any (integer 2 s at) _ (integer-within 2 at) (λ i k l u. named-within strings as-used i k l)
@@ -127,12 +131,12 @@ module _ (s : List ℕ) where
   member-within n-rows before at h =
       then-within Any Any (field 2 (λ v. ltb v n-rows) s at) _ (field-within at h 2 (λ v. ltb v n-rows)) (λ r a1 l1 w1.
       then-within Any Any (integer 2 s a1) _ (integer-within 2 a1) (λ g a2 l2 w2.
-      then-within Any Any (unless (follows (last before) (record { row = r; group = g })) 4 at s a2) _ (unless-within (follows (last before) (record { row = r; group = g })) 4 at a2 (omega arith) h l2) (λ u a3 l3 w3. (l3, tt))))
+      then-within Any Any (unless (follows (last before) (record { row = r; group = g })) 4 at s a2) _ (unless-within (follows (last before) (record { row = r; group = g })) 4 at a2 (omega arith, omega arith) h l2) (λ u a3 l3 w3. (l3, tt))))
 
   criterion-within : (strings : List Stored) (n-rows : ℕ) (before : List Criterion) (at : ℕ) → at ≤ length s → Within s Any (criterion strings n-rows before s at)
   criterion-within strings n-rows before at h =
       then-within Any Any (integer 4 s at) _ (integer-within 4 at) (λ p a1 l1 w1.
-      then-within Any Any (unless (not (repeats before p)) 6 at s a1) _ (unless-within (not (repeats before p)) 6 at a1 (omega arith) h l1) (λ u a2 l2 w2.
+      then-within Any Any (unless (not (repeats before p)) 6 at s a1) _ (unless-within (not (repeats before p)) 6 at a1 (omega arith, omega arith) h l1) (λ u a2 l2 w2.
       then-within Any Any (field 1 (λ v. leb v 2) s a2) _ (field-within a2 l2 1 (λ v. leb v 2)) (λ part a3 l3 w3.
       then-within Any Any (field 1 (λ v. leb v 2) s a3) _ (field-within a3 l3 1 (λ v. leb v 2)) (λ form a4 l4 w4.
       then-within Any Any (field 2 (first-ok form) s a4) _ (field-within a4 l4 2 (first-ok form)) (λ first a5 l5 w5.
@@ -155,14 +159,14 @@ module _ (s : List ℕ) where
   rows-have-within l r [] e at h = (h, tt)
   rows-have-within l r (x ∷ rows) e at h =
       let n : ℕ = memberships-of r l in
-      then-within Any Any (unless (leb 1 n && leb n 8) 4 (x .place) s at) _ (unless-within (leb 1 n && leb n 8) 4 (x .place) at (omega arith) (e .0) h) (λ u k m w. rows-have-within l (suc r) rows (e .1) k m)
+      then-within Any Any (unless (leb 1 n && leb n 8) 4 (x .place) s at) _ (unless-within (leb 1 n && leb n 8) 4 (x .place) at (omega arith, omega arith) (e .0) h) (λ u k m w. rows-have-within l (suc r) rows (e .1) k m)
 
   follows-within : (at : ℕ) → at ≤ length s → Within s Any (nothing-follows s at)
   follows-within at h = go (eqb at (length s))
     where
       go : (b : Bool) → Within s Any (pick b (got (tt {0}) at) (fault 3 at))
       go true = (h, tt)
-      go false = (h, omega arith)
+      go false = (h, (omega arith, omega arith))
 
   profile-within : Within s Any (profile s 0)
   unfolding profile
@@ -180,14 +184,14 @@ module _ (s : List ℕ) where
       then-within Any Any (nothing-follows s a10) _ (follows-within a10 l10) (λ v a11 l11 w11. (l11, tt))))))))))))
 
 -- the number and the place of any fault
-pub placed-low : (s : List ℕ) (n place : ℕ) → judge s ≡ refused n place → (place ≤ 32768) × (0 < n)
+pub placed-low : (s : List ℕ) (n place : ℕ) → judge s ≡ refused n place → (place ≤ 32768) × Fault n
 unfolding judge
 placed-low s n place e = go (leb (length s) 32768) refl (profile s 0) (profile-within s) e
   where
-    go : (b : Bool) → leb (length s) 32768 ≡ b → (r : Got Profile) → Within s Any r → pick b (verdict r) (refused 1 0) ≡ refused n place → (place ≤ 32768) × (0 < n)
+    go : (b : Bool) → leb (length s) 32768 ≡ b → (r : Got Profile) → Within s Any r → pick b (verdict r) (refused 1 0) ≡ refused n place → (place ≤ 32768) × Fault n
     go true b (got p at) w q = let z : _≡_ {A = ℕ} 0 1 = cc in absurd (omega arith)
     go true b (fault m p) w q =
         let z : p ≡ place = cc in
         let y : m ≡ n = cc in
-        (omega (arith, w .0, leb→le (length s) 32768 (T-of b)), omega (arith, w .1))
-    go false b r w q = let z : 0 ≡ place = cc in let y : 1 ≡ n = cc in (omega arith, omega arith)
+        (omega (arith, w .0, leb→le (length s) 32768 (T-of b)), (omega (arith, w .1 .0), omega (arith, w .1 .1)))
+    go false b r w q = let z : 0 ≡ place = cc in let y : 1 ≡ n = cc in (omega arith, (omega arith, omega arith))

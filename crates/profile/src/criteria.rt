@@ -114,7 +114,7 @@ fn rest_at(
 }
 
 // Section 4 after its count: where the criteria end, or the first refusal. A criterion whose priority stands earlier too is
-// found by a scan over the pairs, and the scan is left from inside with its place in `at`.
+// found by a scan over the pairs, and the scan is left from inside with its place.
 pub(crate) fn criteria(
     s: &[u8],
     table: &[u16; 1024],
@@ -129,8 +129,10 @@ pub(crate) fn criteria(
 {
     let mut at = start;
     let mut j: usize = 0;
-    let mut repeated = false;
-    'scan: while j < n {
+    let found = 'scan: loop {
+        if n <= j {
+            break 'scan at;
+        }
         let f = long_at(s, at);
         let Field::Is(p) = f else {
             return f;
@@ -138,8 +140,7 @@ pub(crate) fn criteria(
         let mut i: usize = 0;
         while i < j {
             if priority(s, start + 15 * i) == p {
-                repeated = true;
-                break 'scan;
+                break 'scan at;
             }
             i += 1;
         }
@@ -149,12 +150,12 @@ pub(crate) fn criteria(
         };
         at += 15;
         j += 1;
-    }
-    if repeated {
+    };
+    if j < n {
         return Field::Refused {
             number: 6,
-            place: at,
+            place: found,
         };
     }
-    Field::Is(at)
+    Field::Is(found)
 }

@@ -1,5 +1,6 @@
 pub mod Alike
 pub mod AtMost
+pub mod Differing
 pub mod Listings
 pub mod Main
 pub mod Next
@@ -9,5 +10,6 @@ pub mod Reach
 pub mod Refused
 pub mod RuledOut
 pub mod Sequences
+pub mod Sessions
 pub mod StartLine
 pub mod Unchanged

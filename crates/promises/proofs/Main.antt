@@ -1,30 +1,38 @@
--- The page to open first: the three demands, each a short statement whose proof cites where the work is.
-use mathlib.Core.Bool.{Bool}
-use mathlib.Core.Path.{_≡_}
+-- The page to open first: the three demands of the product (README, "What is proved"), each a short statement whose proof cites where
+-- the work is. They speak of the definitions; "one answer" says that the code's answers are these and no others.
+use mathlib.Core.Bool.{Bool, true}
+use mathlib.Core.Path.{_≡_, sym, ap, _∙_}
 use mathlib.Core.Logic.{_↔_}
 use Prim.Native.Nat.{ℕ, _≤_, _<_, _^_}
 use mathlib.Core.List.{List}
 use lib.ListN.{length, getElem?}
-use lib.Dec.{T}
-use mathlib.Core.Option.{some}
-use Rattle.octets.specs.Lists.{every}
+use lib.Dec.{T, eqb}
+use mathlib.Core.Option.{none, some}
+use Rattle.octets.specs.Lists.{pick, every}
 use Rattle.pattern.specs.Pattern.{Atom, Pattern, Matches}
 use Rattle.pattern.specs.Matching.{matches}
 use Rattle.pattern.proofs.Meaning.{matches-iff}
-use Rattle.profile.specs.Image.{Stored, Criterion, Profile, accepted}
+use Rattle.profile.specs.Image.{Stored, Criterion, Profile, accepted, refused}
 use Rattle.profile.specs.Judging.{judge}
-use Rattle.lookups.specs.Lookups.{check, server, information, part-of}
-use Rattle.lookups.proofs.Parts.{server-part, information-part}
+use Rattle.profile.proofs.Placed.{Fault, placed-low}
+use Rattle.lookups.specs.Lookups.{check, server, information, no-part, part-of, Checks, Serves, Informs}
+use Rattle.lookups.specs.declared.Checked.{Checked}
+use Rattle.lookups.specs.declared.Lookup.{Lookup}
+use Rattle.lookups.proofs.Parts.{server-part, information-part, information-told, information-absent}
 use Rattle.request.specs.Request.{Request}
-use Rattle.session.specs.Session.{possible, unopened, open-session, report-session}
+use Rattle.session.specs.Session.{possible, ready, waiting, released, ended, fresh, unopened, open-session, goes, report-session, Opens, Reports}
 use Rattle.session.specs.declared.Session.{Session}
+use Rattle.session.specs.declared.Opened.{Opened}
+use Rattle.session.specs.declared.Reported.{Reported}
 use Rattle.rows.specs.Rows.{Given}
 use Rattle.order.specs.Order.{Numbered}
-use Rattle.route.specs.Advance.{advance}
-use Rattle.listing.specs.Listing.{listing}
+use Rattle.route.specs.Advance.{advance, Advances}
+use Rattle.route.specs.declared.Advanced.{Advanced}
+use Rattle.listing.specs.Listing.{Listing, listing, Lists}
+use Rattle.listing.specs.declared.Listed.{Listed}
 use Rattle.route.proofs.Trials as trials
 use Rattle.listing.proofs.Trials as list-trials
-use Rattle.promises.specs.Agreement.{MayDiffer}
+use Rattle.promises.specs.Agreement.{MayDiffer, agreeing}
 use Rattle.promises.specs.Calls.{Call, Store, run, AllRelated}
 use Rattle.promises.specs.Common as common
 use Rattle.promises.specs.Marked as marked
@@ -32,6 +40,9 @@ use Rattle.promises.specs.Reached.{Reached}
 use Rattle.promises.specs.Refusals.{First, check-lines, open-lines, advance-lines, listing-lines, report-lines, lookup-lines, AdvanceUnchanged, ListingUnchanged, LookupEmpty}
 use Rattle.promises.specs.Walks.{Candidate, Answers, Answered, Listable, ListsAll, Move, forwards}
 use Rattle.promises.proofs.Alike as alike
+use Rattle.promises.proofs.Differing.{for-joe, invite, unasked-agree}
+use Rattle.promises.proofs.OneAnswer as one
+use Rattle.promises.proofs.Sessions.{opens-fresh, report-answers}
 use Rattle.promises.proofs.AtMost.{at-most}
 use Rattle.promises.proofs.Listings.{lists-all}
 use Rattle.promises.proofs.Next.{route-iff, advance-answers}
@@ -64,6 +75,10 @@ information-refuses = information-refusal
 pub report-refuses : (x : Session) (n : ℕ) → First (report-lines x n) (of-reported (report-session x n))
 report-refuses = report-refusal
 
+-- an image fault is one of the numbers 1 to 6; which of them comes first is the reading order of profile `Judging.profile`
+pub image-numbers : (image : List ℕ) (n place : ℕ) → judge image ≡ refused n place → (place ≤ 32768) × Fault n
+image-numbers = placed-low
+
 -- "on a refusal the session comes back as it went in, counts are zero, no place of an output list is written"
 pub advance-unchanged : (x : Session) (image r : List ℕ) → (advance x image r .refusal ≡ 0 → ⊥) → AdvanceUnchanged x (advance x image r)
 advance-unchanged = unchanged.advance-unchanged
@@ -85,11 +100,24 @@ server-empty = unchanged.server-empty
 pub information-empty : (image : List ℕ) (i : ℕ) → (information image i .refusal ≡ 0 → ⊥) → LookupEmpty (information image i)
 information-empty = unchanged.information-empty
 
+pub absent-is-empty : (image : List ℕ) (p : Profile) → judge image ≡ accepted p → (i : ℕ) (c : Criterion) → getElem? (p .criteria) i ≡ some c
+    → c .info ≡ none → information image i ≡ no-part 0 0
+absent-is-empty = information-absent
+
 -- number 10 is exactly "a record that no session can have", or one in another state
 pub possible-iff-reached : (x : Session) → T (possible x) ↔ Reached x
 possible-iff-reached = reach.possible-iff
 
 -- ---- demand 2: every answer is what document 01 says
+
+-- "Opened with a case; ready, nothing forwarded"
+pub opens-ready : (case : ℕ) → case ≤ 3 → open-session case ≡ record { refusal = 0; session = fresh case }
+opens-ready = opens-fresh
+
+-- "0 returned, ready again; 1 unreachable, ready if the default is continued, else released; 2 final response, ended": only the state changes
+pub report-leads-to : (x : Session) → T (possible x) → x .state ≡ waiting
+    → (report-session x 0 ≡ goes x ready) × (report-session x 1 ≡ goes x (pick (eqb (x .handling) 0) ready released)) × (report-session x 2 ≡ goes x ended)
+report-leads-to = report-answers
 
 -- the answer of an advance: the fitting criterion with the smallest priority above the last, or route
 pub next-is-least : (x : Session) (image r : List ℕ) (p : Profile) (q : Request) → Answers x image r p q → Answered x p q (advance x image r)
@@ -129,6 +157,11 @@ pub information-is-part : (image : List ℕ) (p : Profile) → judge image ≡ a
     → (x : Stored) → c .info ≡ some x → part-of image (information image i) ≡ x .bytes
 information-is-part = information-part
 
+-- "whether information is present", also where it is empty
+pub present-is-told : (image : List ℕ) (p : Profile) → judge image ≡ accepted p → (i : ℕ) (c : Criterion) → getElem? (p .criteria) i ≡ some c
+    → (x : Stored) → c .info ≡ some x → information image i .present ≡ true
+present-is-told = information-told
+
 -- ---- demand 3: nothing else in the message was read
 
 pub advance-reads-no-more : (image a b : List ℕ) → MayDiffer image a b → (x : Session) → advance x image a ≡ advance x image b
@@ -140,6 +173,37 @@ listing-reads-no-more = alike.listing-same
 -- over any sequence of calls: equal answers, refusals, counts, lists and sessions
 pub calls-read-no-more : {cs ds : List Call} → AllRelated cs ds → (st : Store) → run cs st ≡ run ds st
 calls-read-no-more = run-same
+
+-- two requests that differ in a value and a body of which no row asks, and so get one answer
+pub unasked-may-differ : MayDiffer for-joe (invite "joe" "1" "m=a") (invite "joe" "2" "m=b")
+unasked-may-differ = agreeing unasked-agree
+
+-- ---- one answer: what the contracts cite leaves no other
+
+pub one-check : {image : List ℕ} {a b : Checked} → Checks image a → Checks image b → a ≡ b
+one-check = one.one-check
+
+pub one-open : {case : ℕ} {a b : Opened} → Opens case a → Opens case b → a ≡ b
+one-open = one.one-open
+
+pub one-report : {x : Session} {n : ℕ} {a b : Reported} → Reports x n a → Reports x n b → a ≡ b
+one-report = one.one-report
+
+pub one-server : {image : List ℕ} {i : ℕ} {a b : Lookup} → Serves image i a → Serves image i b → a ≡ b
+one-server = one.one-server
+
+pub one-information : {image : List ℕ} {i : ℕ} {a b : Lookup} → Informs image i a → Informs image i b → a ≡ b
+one-information = one.one-information
+
+-- for an advance and a listing also where the request is another that may differ
+pub one-advance : {x : Session} {image r s : List ℕ} {a b : Advanced} → MayDiffer image r s → Advances x image r a → Advances x image s b → a ≡ b
+one-advance {x} {image} {r} {s} d h k = h .answer ∙ advance-reads-no-more image r s d x ∙ sym (k .answer)
+
+pub one-listing : {g : Given} {image r s before after after′ : List ℕ} {a b : Listed} → MayDiffer image r s → Lists g image r before a after → Lists g image s before b after′
+    → (a ≡ b) × (after ≡ after′)
+one-listing {g} {image} {r} {s} {before} d h k =
+    let same = listing-reads-no-more image r s d g before in
+    (h .answer ∙ ap (λ (l : Listing). l .answer) same ∙ sym (k .answer), h .places ∙ ap (λ (l : Listing). l .places) same ∙ sym (k .places))
 
 -- ---- the examples
 

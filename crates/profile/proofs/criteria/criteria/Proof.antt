@@ -1,9 +1,10 @@
 use mathlib.Core.Logic.{⊎-elim}
 use borrow.Author.Needs.{needs}
 use native.Mathlib.Omega.{arith}
-use mathlib.Core.Path.{_≡_, refl}
+use mathlib.Core.Path.{_≡_, ap, _∙_}
 use mathlib.Core.Bool.{false}
 use Prim.Native.Nat.{_-_, _≤_}
+use Rattle.profile.specs.Out.{good, bad}
 use Rattle.profile.specs.Places.{texts}
 use Rattle.profile.proofs.Laws.{is}
 use Rattle.profile.proofs.CriteriaLoop.{CritHead, earlier, earlier-none, earlier-not, earlier-found, earlier-all, crit-first, crit-end, crit-cut, crit-repeat, crit-bad, crit-more, u32-inv}
@@ -11,19 +12,19 @@ use Rattle.profile.proofs.criteria.criteria.Statement.{statement}
 use Rattle.profile.proofs.criteria.criteria.Tie as tie
 
 abbrev Inv-loop : tie.InvT-loop
-Inv-loop s table uses strs rows n start at j repeated₀ p i₀ repeated i = (i ≤ j) × (earlier s start i p ≡ false) × (repeated ≡ false)
+Inv-loop s table uses strs rows n start at j p i₀ i = (i ≤ j) × (earlier s start i p ≡ false)
 
 abbrev μ-loop : tie.MeasureT-loop
-μ-loop s table uses strs rows n start at j repeated₀ p i₀ repeated i = j - i
+μ-loop s table uses strs rows n start at j p i₀ i = j - i
 
 abbrev Inv-scan : tie.InvT-scan
-Inv-scan s table uses strs rows n start at₀ j₀ repeated₀ at j repeated = CritHead s (texts s strs table) rows n start at j × (repeated ≡ false)
+Inv-scan s table uses strs rows n start at₀ j₀ at j = CritHead s (texts s strs table) rows n start at j
 
 abbrev μ-scan : tie.MeasureT-scan
-μ-scan s table uses strs rows n start at₀ j₀ repeated₀ at j repeated = n - j
+μ-scan s table uses strs rows n start at₀ j₀ at j = n - j
 
 scan-holds : tie.Need-scan-holds Inv-loop μ-loop Inv-scan μ-scan
-scan-holds c = (crit-first _ _ _ _ _, refl)
+scan-holds c = crit-first _ _ _ _ _
 
 long-at-requires : tie.Need-long-at-requires Inv-loop μ-loop Inv-scan μ-scan
 long-at-requires c κs = search needs
@@ -38,7 +39,7 @@ returns : tie.Need-returns Inv-loop μ-loop Inv-scan μ-scan
 returns c = search crit-cut
 
 loop-holds : tie.Need-loop-holds Inv-loop μ-loop Inv-scan μ-scan
-loop-holds c = (omega arith, earlier-none _ _ _, search needs)
+loop-holds c = (omega arith, earlier-none _ _ _)
 
 mul-priority : tie.Need-mul-priority Inv-loop μ-loop Inv-scan μ-scan
 mul-priority c = search needs
@@ -60,7 +61,7 @@ loop-less c = search needs
 loop-again : tie.Need-loop-again Inv-loop μ-loop Inv-scan μ-scan
 loop-again c =
     let hd = c .before .before .before in
-    (omega arith, earlier-not _ _ _ _ _ (hd .loop .inv .1) (c .before .priority .ensures .0) (c .if1 .left), hd .loop .inv .2)
+    (omega arith, earlier-not _ _ _ _ _ (hd .loop .inv .1) (c .before .priority .ensures .0) (c .if2 .left))
 
 rest-at-requires : tie.Need-rest-at-requires Inv-loop μ-loop Inv-scan μ-scan
 rest-at-requires c κs = search needs
@@ -76,7 +77,7 @@ returns-2 c =
     let lp = c .before .before .before .before in
     let f = lp .before .before in
     let lg = f .before .before in
-    crit-bad _ _ _ _ _ _ _ (lg .before .before .scan .inv .0) (lg .before .scan-test .taken) _ (lg .long-at .ensures) _ (f .f .given .1) (earlier-all _ _ _ _ _ (lp .loop .inv .1) (lp .loop .inv .0) (c .before .before .before .loop-test .left)) _ (c .before .before .rest-at .ensures) _ _ (c .enum-told3 .given .1)
+    crit-bad _ _ _ _ _ _ _ (lg .before .before .scan .inv) (lg .before .if1 .left) _ (lg .long-at .ensures) _ (f .f .given .1) (earlier-all _ _ _ _ _ (lp .loop .inv .1) (lp .loop .inv .0) (c .before .before .before .loop-test .left)) _ (c .before .before .rest-at .ensures) _ _ (c .enum-told3 .given .1)
 
 add-at : tie.Need-add-at Inv-loop μ-loop Inv-scan μ-scan
 add-at c = search needs
@@ -92,17 +93,17 @@ scan-again c =
     let lp = c .before .before .before .before in
     let f = lp .before .before in
     let lg = f .before .before in
-    (crit-more _ _ _ _ _ _ _ (lg .before .before .scan .inv .0) (lg .before .scan-test .taken) _ (lg .long-at .ensures) _ (f .f .given .1) (earlier-all _ _ _ _ _ (lp .loop .inv .1) (lp .loop .inv .0) (c .before .before .before .loop-test .left)) _ (c .before .before .rest-at .ensures) _ (c .enum-told2 .given .1), lp .loop .inv .2)
+    crit-more _ _ _ _ _ _ _ (lg .before .before .scan .inv) (lg .before .if1 .left) _ (lg .long-at .ensures) _ (f .f .given .1) (earlier-all _ _ _ _ _ (lp .loop .inv .1) (lp .loop .inv .0) (c .before .before .before .loop-test .left)) _ (c .before .before .rest-at .ensures) _ (c .enum-told2 .given .1)
 
 returns-3 : tie.Need-returns-3 Inv-loop μ-loop Inv-scan μ-scan
 returns-3 c =
-    ⊎-elim (λ w. cc)
-    (λ w. let hd = c .before .before .scan .inv .0 in crit-repeat _ _ _ _ _ _ _ hd (w .0 .taken) _ (w .1 .ensures) _ (w .3 .given .1) (earlier-found _ _ _ _ _ _ (w .6 .taken) (w .7 .ensures .0) (w .8 .taken)))
-    (c .before .scan-test .came)
+    ⊎-elim (λ w. absurd (omega arith))
+    (λ w. let hd = c .before .before .scan .inv in ap (bad 6) (w .9) ∙ crit-repeat _ _ _ _ _ _ _ hd (w .0 .left) _ (w .1 .ensures) _ (w .3 .given .1) (earlier-found _ _ _ _ _ _ (w .6 .taken) (w .7 .ensures .0) (w .8 .taken)))
+    (c .before .if1 .came)
 
 returns-4 : tie.Need-returns-4 Inv-loop μ-loop Inv-scan μ-scan
 returns-4 c =
-    ⊎-elim (λ w. crit-end _ _ _ _ _ _ _ (c .before .before .scan .inv .0) (w .0 .left)) (λ w. cc) (c .before .scan-test .came)
+    ⊎-elim (λ w. ap good (w .1) ∙ crit-end _ _ _ _ _ _ _ (c .before .before .scan .inv) (w .0 .taken)) (λ w. absurd (omega arith)) (c .before .if1 .came)
 
 pub criteria-spec : {M : Type 1} → statement M
 criteria-spec =
