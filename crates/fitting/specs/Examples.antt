@@ -1,5 +1,5 @@
 -- Worked triggers over rows that fit or not, and the parts against the cases. One list, one claim.
-use mathlib.Core.Bool.{Bool, true, false, not}
+use mathlib.Core.Bool.{Bool, true, false}
 use Prim.Native.Nat.{ℕ}
 use mathlib.Core.List.{List, [], _∷_}
 use lib.Dec.{T, eqb}

@@ -1,4 +1,4 @@
--- Demand 1: each refusal is that of the first line that holds, and a refusal changes nothing.
+-- Demand 1: each refusal is that of the first line that holds.
 use borrow.Author.Tests.{ne-eqb}
 use mathlib.Core.Bool.{Bool, true, false, not, _&&_}
 use mathlib.Core.Option.{Option, none, some}

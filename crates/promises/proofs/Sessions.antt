@@ -8,8 +8,6 @@ use Rattle.octets.specs.Lists.{pick}
 use Rattle.octets.proofs.Tests.{T-of, is-true, both}
 use Rattle.session.specs.Session.{possible, ready, waiting, released, ended, fresh, unopened, open-session, goes, stays, after-report, report-session}
 use Rattle.session.specs.declared.Session.{Session}
-use Rattle.session.specs.declared.Opened.{Opened}
-use Rattle.session.specs.declared.Reported.{Reported}
 
 pub opens-fresh : (case : ℕ) → case ≤ 3 → open-session case ≡ record { refusal = 0; session = fresh case }
 unfolding open-session

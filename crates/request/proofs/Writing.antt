@@ -6,7 +6,6 @@ use native.Mathlib.Numerals.{add-one}
 use native.Mathlib.Omega.{arith}
 use lib.ListN.{length, getD, drop, set, length-append, length-drop}
 use lib.Seq.{drop-cons, set-at, append-snoc}
-use Rattle.request.specs.Places.{over}
 
 -- of `all` the rest is still to come; d stood there before, e stands there now
 pub record Written (all d e : List ℕ) (n : ℕ) (rest : List ℕ) : Type 0 where

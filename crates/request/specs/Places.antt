@@ -22,7 +22,7 @@ abbrev pub before-cut : List ℕ → Option Cut → List ℕ
 before-cut s none = s
 before-cut s (some c) = c .before
 
--- the head: its length is "the place of the first CR LF CR LF, or the length where there is none"
+-- the head: its length is the place of the first CR LF CR LF, or the length where there is none
 unfoldable pub head-of : List ℕ → List ℕ
 unfolding first-cut
 head-of s = before-cut s (first-cut empty-line s)
@@ -87,7 +87,7 @@ colons-of h (some q) = line-colons (fields-start h) (field-lines h)
 abbrev pub over : List ℕ → List ℕ → List ℕ
 over w d = w ++ drop (length w) d
 
--- room for a place of each field, of which every one takes at least four bytes; a longer request is not read
+-- room for a place of each field, of which every one takes at least four bytes; one longer than 65,535 bytes is not read
 pub record Room (s places : List ℕ) : Type 0 where
   pub enough : length s ≤ 65535 → length s ≤ 4 * length places
 

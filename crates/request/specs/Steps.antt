@@ -6,7 +6,7 @@ use mathlib.Core.List.{List, [], _∷_, _++_}
 use Prim.Native.Nat.{ℕ, _+_, _*_, _≤_, _<_}
 use lib.ListN.{length, drop}
 use lib.Dec.{T, leb, ltb}
-use Rattle.octets.specs.Lists.{pick, every, empty}
+use Rattle.octets.specs.Lists.{pick, every}
 use Rattle.request.specs.Body.{drop-cr}
 use Rattle.request.specs.Cutting.{begins, cut-by}
 use Rattle.request.specs.Places.{head-of, fields-start, line-starts, line-colons}

@@ -111,8 +111,8 @@ pub enum Reading {
     },
 }
 
-// Reads a request. The places of each field's line and of its colon go to the front of the lent places, which need hold no more than this
-// one's fields; nothing is written where the request is unreadable.
+// Reads a request. The places of each field's line and of its colon go to the front of the lent places, which are at least a quarter as
+// many as the request has bytes, since a field takes four; nothing is written where the request is unreadable.
 pub fn read(s: &[u8], starts: &mut [u16], colons: &mut [u16]) -> Reading
     requires { ⌜ Room (now s) (now starts) × Room (now s) (now colons) ⌝ }
     ensures { λ r. ⌜ Read (now (s .entry)) (now (starts .entry)) (now (colons .entry)) (now (starts .exit)) (now (colons .exit)) r ⌝ }
@@ -181,7 +181,8 @@ pub fn field_at(
     }
 }
 
-// The name of a field as it is matched. Whoever matches a name takes it from here.
+// The name of a field as it is matched. Whoever matches a name takes it from here. Change request 1, the long forms of compact names, moves
+// the definition; a function cannot return a byte string of its own, so its callers will then match such a name themselves.
 pub fn name_of(written: &[u8]) -> &[u8]
     ensures { λ r. ⌜ now r ≡ name-as-matched (now (written .entry)) ⌝ }
 {

@@ -42,7 +42,7 @@ pub record Placed (s starts colons : List ℕ) (head fields : ℕ) : Type 0 wher
   pub read : Readable method uri head fields ≡ reading (head-of s) (read-request s)
   pub each : (i : ℕ) → i < fields → Indexed s starts colons head fields i
 
--- the lent rooms can hold a place for each field, and any value; a longer request is not read
+-- the lent rooms can hold a place for each field, and any value; a request longer than 65,535 bytes is not read
 pub record Rooms (s starts colons room : List ℕ) : Type 0 where
   pub starts-room : Room s starts
   pub colons-room : Room s colons
