@@ -1,7 +1,7 @@
 -- The loops over memberships, and what they say of a trigger.
 use mathlib.Core.Bool.{Bool, true, false, not, _&&_, _||_}
 use mathlib.Core.Path.{_≡_, refl, sym, ap, ap₂, _∙_, subst}
-use Prim.Native.Nat.{ℕ, suc, _+_, _-_, _*_, _/_, _^_, _≤_, _<_}
+use Prim.Native.Nat.{ℕ, _+_, _-_, _*_, _/_, _^_, _≤_, _<_}
 use native.Mathlib.Omega.{arith}
 use mathlib.Core.List.{List, [], _∷_}
 use lib.Dec.{T, leb, ltb, eqb, leb→le, ltb→lt}
@@ -12,6 +12,7 @@ use Rattle.octets.specs.Bits.{bit}
 use Rattle.octets.proofs.Bits.{low-bit}
 use Rattle.octets.proofs.Tests.{left, right, T-of, not-or}
 use Rattle.fitting.specs.Fitting.{in-rows, cnf, dnf, part-fits}
+use Rattle.profile.proofs.Opened.{spaced-cons, spaced-none, spaced-start}
 use Rattle.profile.specs.Places.{word, member-numbers}
 use Rattle.profile.specs.declared.Member as declared
 use Rattle.profile.specs.Image.{Member}
@@ -51,17 +52,15 @@ module _ {A : Type 0} (p f : A → Bool) where
 
 pub members-cons : (s : List ℕ) (at n i : ℕ) → i < n → members-at s (at + 4 * i) (n - i) ≡ member-from s (at + 4 * i) ∷ members-at s (at + 4 * (i + 1)) (n - (i + 1))
 unfolding members-at
-members-cons s at n i h =
-    let e : n - i ≡ suc (n - (i + 1)) = omega arith in
-    let k : at + 4 * i + 4 ≡ at + 4 * (i + 1) = omega arith in
-    ap (λ (j : ℕ). members-at s (at + 4 * i) j) e ∙ ap (λ (j : ℕ). member-from s (at + 4 * i) ∷ members-at s j (n - (i + 1))) k
+members-cons s = spaced-cons (member-from s) 4
 
 members-none : (s : List ℕ) (at n i : ℕ) → n ≤ i → members-at s at (n - i) ≡ []
 unfolding members-at
-members-none s at n i h = let e : n - i ≡ 0 = omega arith in ap (λ (j : ℕ). members-at s at j) e
+members-none s = spaced-none (member-from s) 4
 
 pub members-start : (s : List ℕ) (at n : ℕ) → members-at s (at + 4 * 0) (n - 0) ≡ members-at s at n
-members-start s at n = let e : at + 4 * 0 ≡ at = omega arith in let k : n - 0 ≡ n = omega arith in ap₂ (λ (a j : ℕ). members-at s a j) e k
+unfolding members-at
+members-start s = spaced-start (member-from s) 4
 
 -- all of them pass, so far
 pub record All (f : Member → Bool) (s : List ℕ) (at n i : ℕ) (whole : Bool) : Type 0 where

@@ -1,7 +1,7 @@
 -- What an accepted image's judgement tells the steps above: where everything lies, that it lies in the image, and what it is.
 use mathlib.Core.Option.{none, some}
 use mathlib.Core.Path.{_≡_, refl, sym, ap, ap₂, _∙_, subst}
-use Prim.Native.Nat.{ℕ, zero, suc, _+_, _*_, _≤_, _<_}
+use Prim.Native.Nat.{ℕ, zero, suc, _+_, _-_, _*_, _≤_, _<_}
 use native.Mathlib.Nat.{le-of-suc-le-suc, not-suc-le-zero}
 use native.Mathlib.Omega.{arith}
 use mathlib.Core.List.{List, [], _∷_, _++_, map}
@@ -37,6 +37,22 @@ spaced-at item w at (suc n) zero h = let e : at ≡ at + w * 0 = omega arith in 
 spaced-at item w at (suc n) (suc k) h =
     let e : at + w + w * k ≡ at + w * suc k = omega arith in
     spaced-at item w (at + w) n k (le-of-suc-le-suc h) ∙ ap (λ (j : ℕ). some (item j)) e
+
+-- what is left of a section from its i-th on
+module _ {A : Type 0} (item : ℕ → A) (w at n : ℕ) where
+  pub spaced-cons : (i : ℕ) → i < n → spaced item w (at + w * i) (n - i) ≡ item (at + w * i) ∷ spaced item w (at + w * (i + 1)) (n - (i + 1))
+  unfolding spaced
+  spaced-cons i h =
+      let e : n - i ≡ suc (n - (i + 1)) = omega arith in
+      let k : at + w * i + w ≡ at + w * (i + 1) = omega arith in
+      ap (λ (j : ℕ). spaced item w (at + w * i) j) e ∙ ap (λ (j : ℕ). item (at + w * i) ∷ spaced item w j (n - (i + 1))) k
+
+  pub spaced-none : (i : ℕ) → n ≤ i → spaced item w at (n - i) ≡ []
+  unfolding spaced
+  spaced-none i h = let e : n - i ≡ 0 = omega arith in ap (λ (j : ℕ). spaced item w at j) e
+
+  pub spaced-start : spaced item w (at + w * 0) (n - 0) ≡ spaced item w at n
+  spaced-start = let e : at + w * 0 ≡ at = omega arith in let k : n - 0 ≡ n = omega arith in ap₂ (λ (a j : ℕ). spaced item w a j) e k
 
 pub spaced-past : {A : Type 0} (item : ℕ → A) (w at n k : ℕ) → n ≤ k → getElem? (spaced item w at n) k ≡ none
 unfolding spaced

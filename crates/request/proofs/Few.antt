@@ -1,6 +1,6 @@
--- The fields of a request with their values are no more than the bytes of its head.
-use mathlib.Core.Option.{some, Option·some-injective}
-use mathlib.Core.Path.{_≡_, refl, sym, ap, subst}
+-- The fields of a request with their values are no more than the bytes of its head, and so few.
+use mathlib.Core.Option.{Option, none, some, Option·some-injective}
+use mathlib.Core.Path.{_≡_, refl, sym, ap, _∙_, subst}
 use mathlib.Core.List.{List, [], _∷_}
 use Prim.Native.Nat.{ℕ, zero, suc, _+_, _≤_, _<_, zero-le, suc-le-suc}
 use native.Mathlib.Nat.{le-trans}
@@ -10,12 +10,13 @@ use lib.ListN.{length, take, drop, length-drop}
 use lib.Dec.{T}
 use lib.Seq.{length-take-le}
 use Rattle.octets.specs.Lists.{total}
-use Rattle.request.specs.Places.{part, colon-in}
-use Rattle.request.specs.Request.{Field, paired, name-as-matched, field, all-fields}
+use Rattle.octets.proofs.Options.{Ok}
+use Rattle.request.specs.Places.{part, colon-in, head-of}
+use Rattle.request.specs.Request.{Request, Field, paired, name-as-matched, field, all-fields, read-request}
 use Rattle.request.specs.Searching.{first, line-break}
-use Rattle.request.specs.Steps.{lines-from}
+use Rattle.request.specs.Steps.{lines-from, judged}
 use Rattle.request.specs.Values.{trim-right, reduced}
-use Rattle.request.proofs.Accepted.{Accepts}
+use Rattle.request.proofs.Accepted.{Accepts, accepts}
 use Rattle.request.proofs.Fields.{end-order, end-inside}
 use Rattle.request.proofs.Lines.{line-here, line-next, line-past}
 use Rattle.request.proofs.Norm.{reduced-le}
@@ -86,3 +87,24 @@ request-few s e m u f k =
     let ls = lines-from h f in
     let few : total length ls + f ≤ length h + 2 = lines-few (length ls) h f (omega arith) (omega (arith, k .start-inside, long)) (k .paired-on) in
     omega (arith, fields-few ls (k .request .fields) (k .fields-are), few, long, k .start-is)
+
+-- ---- what the counts above rest on
+
+-- the fields of a readable request with their values, and its body, are within what its length allows
+pub record Small (q : Request) : Type 0 where
+  pub fields-le : total weight (q .fields) ≤ 262143
+  pub body-le : length (q .body) ≤ 65535
+
+pub request-small : (s : List ℕ) → Ok Small (read-request s)
+request-small s = go (read-request s) refl
+  where
+    go : (o : Option Request) → read-request s ≡ o → Ok Small o
+    go none r = tt
+    go (some q) r =
+        let k = accepts s _ _ _ _ (sym (ap (judged (head-of s)) r)) in
+        let same : k .request ≡ q = Option·some-injective (k .request) q (sym (k .read) ∙ r) in
+        subst Small same
+        (record {
+          fields-le = omega (arith, request-few s _ _ _ _ k, k .body-inside, k .short);
+          body-le = omega (arith, ap length (k .body-is), length-drop (length (head-of s) + 4) s, k .short);
+        })

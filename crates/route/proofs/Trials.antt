@@ -15,7 +15,7 @@ use Rattle.profile.specs.Image.{Profile, Judged, accepted, refused}
 use Rattle.profile.specs.Judging.{judge}
 use Rattle.profile.proofs.Accepted.{Sound, accepted-sound}
 use Rattle.request.specs.Request.{Request, read-request}
-use Rattle.request.proofs.Small.{Small, request-small}
+use Rattle.request.proofs.Few.{Small, request-small}
 use Rattle.session.specs.Session.{possible, ready}
 use Rattle.session.specs.declared.Session.{Session}
 use Rattle.rows.specs.Rows.{Given, REGISTER}

@@ -13,6 +13,7 @@ use Rattle.pattern.specs.Answers.{meets-text}
 use Rattle.request.specs.Body.{Line}
 use Rattle.request.specs.Request.{Field, name-as-matched}
 use Rattle.request.specs.Values.{reduced, values-of}
+use Rattle.request.proofs.Few.{weight}
 use Rattle.rows.specs.Trying.{values-row, named-row, item-row, field-row, line-row}
 use Rattle.rows.specs.declared.Verdict.{Verdict}
 
@@ -81,9 +82,9 @@ item-le fold h with c name vs = go with (meets-text fold h name)
 
 module _ (h : List ℕ) (with : Bool) (c : List ℕ) where
   -- each field takes at most one for its name and one for each of its values
-  pub fields-le : (fs : List Field) → total (λ f. field-row h with c f .trials) fs ≤ total (λ f. 1 + length (f .values)) fs
+  pub fields-le : (fs : List Field) → total (λ f. field-row h with c f .trials) fs ≤ total weight fs
   unfolding field-row
-  fields-le fs = total-mono (λ f. field-row h with c f .trials) (λ f. 1 + length (f .values)) (λ f. item-le true h with c (f .name) (f .values)) fs
+  fields-le fs = total-mono (λ f. field-row h with c f .trials) weight (λ f. omega (arith, item-le true h with c (f .name) (f .values))) fs
 
   -- each line at most two
   pub lines-le : (ls : List Line) → total (λ l. line-row h with c l .trials) ls ≤ length ls * 2

@@ -15,7 +15,7 @@ use Rattle.request.specs.Steps.{lines-from}
 use Rattle.request.proofs.Accepted.{Accepts}
 use Rattle.request.proofs.Answers.{fields-count, starts-length, colons-length}
 use Rattle.request.proofs.Indexing.{FieldSays, accepted-by, few, field-says}
-use Rattle.request.proofs.Small.{Small, request-small}
+use Rattle.request.proofs.Few.{Small, request-small}
 use Rattle.rows.specs.Tried.{or-blank, request-of, Placed}
 use Rattle.rows.specs.declared.Places.{Places}
 

@@ -1,7 +1,7 @@
 -- The trials of a row stay within what a readable request's length allows.
 use mathlib.Core.Bool.{Bool, true, false}
 use mathlib.Core.Option.{Option, none, some}
-use Prim.Native.Nat.{ℕ, _+_, _≤_, zero-le}
+use Prim.Native.Nat.{ℕ, _≤_, zero-le}
 use native.Mathlib.Nat.{le-refl, le-trans}
 use native.Mathlib.Omega.{arith}
 use lib.ListN.{length}
@@ -11,7 +11,8 @@ use Rattle.pattern.specs.Matching.{written-matches, name-matches}
 use Rattle.profile.specs.Image.{Test, request-uri, method, header, session-case, description, Row}
 use Rattle.request.specs.Request.{Request}
 use Rattle.request.specs.Body.{request-lines}
-use Rattle.request.proofs.Small.{Small, session-lines-length}
+use Rattle.request.proofs.Few.{weight, Small}
+use Rattle.request.proofs.Small.{session-lines-length}
 use Rattle.rows.specs.Rows.{content-trials, field-trials, line-trials, test-trials, row-trials}
 
 content-le : (c : Option Pattern) (b : Bool) (n : ℕ) → content-trials c b n ≤ n
@@ -25,7 +26,7 @@ test-le q h (request-uri u) = omega arith
 test-le q h (method m set) = omega arith
 test-le q h (header p c) =
     le-trans
-    (total-mono (field-trials p c) (λ f. 1 + length (f .values))
+    (total-mono (field-trials p c) weight
     (λ f. omega (arith, content-le c (name-matches p (f .name)) (length (f .values)))) (q .fields))
     (h .fields-le)
 test-le q h (session-case k) = omega arith
