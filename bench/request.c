@@ -49,6 +49,7 @@ static void fill(size_t size, const char *head, const char *again, const char *l
 static void folds(size_t size) { fill(size, "A b SIP/2.0\r\nX:", "\r\n ", "\r\n\r\n"); }
 static void commas(size_t size) { fill(size, "A b SIP/2.0\r\nX:", ",", "\r\n\r\n"); }
 static void fields(size_t size) { fill(size, "A b SIP/2.0\r\n", "a:\r\n", "\r\n"); }
+static void blanks(size_t size) { fill(size, "A b SIP/2.0\r\nX", " ", ":\r\n\r\n"); }
 static void value(size_t size) { fill(size, "A b SIP/2.0\r\nX: ", "a", "\r\n\r\n"); }
 static void lines(size_t size) { fill(size, "A b SIP/2.0\r\n\r\n", "a=\n", ""); }
 
@@ -63,6 +64,9 @@ static double once(parts *count, uint32_t times, uint32_t *n) {
     return ((double)(b.tv_sec - a.tv_sec) * 1e9 + (double)(b.tv_nsec - a.tv_nsec)) / times;
 }
 
+/* The largest of all rows. */
+static double most_ratio, most_growth;
+
 /* The best of several runs, in turn, so that a slow moment of the machine hits both. */
 static double line(const char *name, double before) {
     double rattle = 1e18, plain = 1e18;
@@ -75,6 +79,8 @@ static double line(const char *name, double before) {
     }
     printf("%-8s %6zu %7u %7u %7u %10.0f %10.0f %6.2f", name, length, n[1], n[2], n[3], rattle, plain, rattle / plain);
     if (before > 0) printf(" %6.2f", rattle / before);
+    if (rattle / plain > most_ratio) most_ratio = rattle / plain;
+    if (before > 0 && rattle / before > most_growth) most_growth = rattle / before;
     printf("\n");
     return rattle;
 }
@@ -95,7 +101,9 @@ int main(void) {
     shape("folds", folds);
     shape("commas", commas);
     shape("fields", fields);
+    shape("blanks", blanks);
     shape("value", value);
     shape("lines", lines);
+    printf("\nin every row at most %.2f of plain C's time, and %.2f times that of half the size\n", most_ratio, most_growth);
     return 0;
 }

@@ -1,7 +1,9 @@
 -- What each contract cites leaves one answer, and one content of every lent place.
-use mathlib.Core.Path.{_≡_, sym, _∙_}
+use mathlib.Core.Bool.{Bool}
+use mathlib.Core.Path.{_≡_, sym, ap₂, _∙_}
 use Prim.Native.Nat.{ℕ}
 use mathlib.Core.List.{List}
+use Rattle.profile.specs.Image.{Row, Criterion}
 use Rattle.lookups.specs.Lookups.{Checks, Serves, Informs}
 use Rattle.lookups.specs.declared.Checked.{Checked}
 use Rattle.lookups.specs.declared.Lookup.{Lookup}
@@ -9,7 +11,13 @@ use Rattle.session.specs.Session.{Opens, Reports}
 use Rattle.session.specs.declared.Session.{Session}
 use Rattle.session.specs.declared.Opened.{Opened}
 use Rattle.session.specs.declared.Reported.{Reported}
+use Rattle.request.specs.Places.{Read}
+use Rattle.request.specs.Request.{Request}
+use Rattle.request.specs.declared.Reading.{Reading}
 use Rattle.rows.specs.Rows.{Given}
+use Rattle.rows.specs.Tried.{Tried}
+use Rattle.rows.specs.declared.Verdict.{Verdict}
+use Rattle.fitting.specs.Rowwise.{Considered}
 use Rattle.route.specs.Advance.{Advances}
 use Rattle.listing.specs.Listing.{Lists}
 use Rattle.route.specs.declared.Advanced.{Advanced}
@@ -36,3 +44,18 @@ one-advance h k = h .answer ∙ sym (k .answer)
 pub one-listing : {g : Given} {image r before after after′ : List ℕ} {a b : Listed} → Lists g image r before a after → Lists g image r before b after′
     → (a ≡ b) × (after ≡ after′)
 one-listing h k = (h .answer ∙ sym (k .answer), h .places ∙ sym (k .places))
+
+-- ---- between our crates
+
+pub one-reading : {s starts colons starts′ starts″ colons′ colons″ : List ℕ} {a b : Reading} → Read s starts colons starts′ colons′ a → Read s starts colons starts″ colons″ b
+    → (a ≡ b) × (starts′ ≡ starts″) × (colons′ ≡ colons″)
+one-reading h k = (h .answer ∙ sym (k .answer), h .starts-are ∙ sym (k .starts-are), h .colons-are ∙ sym (k .colons-are))
+
+one-verdict : {a b : Verdict} → a .fits ≡ b .fits → a .trials ≡ b .trials → a ≡ b
+one-verdict p q = ap₂ (λ (x : Bool) (y : ℕ). record { fits = x; trials = y }) p q
+
+pub one-row : {q : Request} {g : Given} {r : Row} {a b : Verdict} → Tried q g r a → Tried q g r b → a ≡ b
+one-row h k = one-verdict (h .fit ∙ sym (k .fit)) (h .tried ∙ sym (k .tried))
+
+pub one-criterion : {fits : Criterion → Bool} {trials : Criterion → ℕ} {c : Criterion} {a b : Verdict} → Considered fits trials c a → Considered fits trials c b → a ≡ b
+one-criterion h k = one-verdict (h .fit ∙ sym (k .fit)) (h .tried ∙ sym (k .tried))
