@@ -6,7 +6,7 @@ ghost use lib.ListN.{length};
 ghost use Rattle.octets.specs.Lists.{pick};
 ghost use Rattle.profile.specs.Answers.{Table};
 ghost use Rattle.profile.specs.Decoded.{stored-in, string-of};
-ghost use Rattle.profile.specs.Places.{word};
+ghost use Rattle.profile.specs.Places.{criterion-numbers};
 ghost use Rattle.lookups.specs.Lookups.{no-part, the-part, part-of, server as server-of, information as information-of, Checks, Looks, Serves, Informs};
 
 // What the check of an image answers: the refusal number (0 if none) and its place.
@@ -73,13 +73,14 @@ fn stored_part(s: &[u8], table: &[u16; 1024], n: usize, i: usize) -> Lookup
 
 // The number of the string that the criterion at a place names: its server, or its information.
 fn string_named(image: &[u8], at: usize, information: bool) -> usize
-    requires { ⌜ at + 15 ≤ length (now image) ⌝ }
-    ensures { λ r. ⌜ r ≡ pick information (word (now (image .entry)) (at + 13)) (word (now (image .entry)) (at + 10)) ⌝ }
+    requires { ⌜ (at + 15 ≤ length (now image)) × (length (now image) ≤ 32768) ⌝ }
+    ensures { λ r. ⌜ r ≡ pick information (criterion-numbers (now (image .entry)) at .info) (criterion-numbers (now (image .entry)) at .server) ⌝ }
 {
+    let c = profile::read_criterion(image, at);
     if information {
-        return profile::number(image, at + 13);
+        return c.info;
     }
-    profile::number(image, at + 10)
+    c.server
 }
 
 // Both lookups: a criterion's information, or its server.

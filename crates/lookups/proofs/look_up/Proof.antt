@@ -27,7 +27,10 @@ add-string-named : tie.Need-add-string-named
 add-string-named c = omega (arith, (criterion-inside _ _ (c .before .before .before .before .before .before .judge .ensures) (c .before .before .before .before .if1 .left) _ (c .before .if2 .left)), (opened _ _ (c .before .before .before .before .before .before .judge .ensures) (c .before .before .before .before .if1 .left)))
 
 string-named-requires : tie.Need-string-named-requires
-string-named-requires c κs = (criterion-inside _ _ (c .before .before .before .before .before .before .judge .ensures) (c .before .before .before .before .if1 .left) _ (c .before .if2 .left))
+string-named-requires c κs =
+    let judged = c .before .before .before .before .before .before .judge .ensures in
+    let sound = c .before .before .before .before .if1 .left in
+    (criterion-inside _ _ judged sound _ (c .before .if2 .left), opened _ _ judged sound .size)
 
 no-part-with-requires-3 : tie.Need-no-part-with-requires-3
 no-part-with-requires-3 c κs = search needs
