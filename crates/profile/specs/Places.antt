@@ -1,4 +1,4 @@
--- The judgement as the code goes, by places in the bytes and without what the strings hold. The definition to believe is
+-- The judgement as the code goes, by places in the bytes; it keeps no string. The definition to believe is
 -- `Judging.judge`; `proofs/Same` shows that both give the same number and place.
 use Prim.Native.Nat.{ℕ, zero, suc, _+_, _*_, _≤_, _<_}
 use mathlib.Core.Bool.{Bool, true, false, not, cond, _&&_, _||_}

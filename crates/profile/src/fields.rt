@@ -1,4 +1,5 @@
-// The fields of an image: numbers of one, two and four bytes, each read where it stands, or refused.
+// The fields of an image: numbers of one, two and four bytes, each read where it stands, or refused. The bounds on places in this crate's
+// `requires` only keep sums of places from overflowing; they are far above any place of an image, and fall from layer to layer.
 ghost use mathlib.Core.Path.{_≡_};
 ghost use Prim.Native.Nat.{_+_, _≤_, _<_};
 ghost use lib.ListN.{length};

@@ -24,7 +24,7 @@ fn comes_after(k: usize, row: usize, group: usize, r: usize, g: usize) -> bool
     false
 }
 
-// The membership at `at`, the k-th before it being (row, group).
+// The membership at `at`, before which k stand, the last of them (row, group).
 fn member_at(s: &[u8], rows: usize, k: usize, row: usize, group: usize, at: usize) -> Pair
     requires { ⌜ at ≤ 150000 ⌝ }
     ensures { λ r. ⌜ pair-out at r ≡ member (now (s .entry)) rows (comes k row group) at ⌝ }

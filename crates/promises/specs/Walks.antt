@@ -5,8 +5,8 @@ use mathlib.Core.Path.{_≡_}
 use Prim.Native.Nat.{ℕ, _+_, _≤_}
 use mathlib.Core.List.{List, [], _∷_, _++_, List·Memᴰ}
 use lib.ListN.{length, drop}
-use lib.Dec.{T, leb, ltb, eqb}
-use Rattle.octets.specs.Lists.{pick, every, same, total}
+use lib.Dec.{T, leb, eqb}
+use Rattle.octets.specs.Lists.{pick, same, total}
 use Rattle.profile.specs.Image.{Profile, accepted}
 use Rattle.profile.specs.Judging.{judge}
 use Rattle.request.specs.Request.{Request, read-request}
@@ -14,7 +14,7 @@ use Rattle.session.specs.Session.{possible, ready, waiting, finished, with-stat
 use Rattle.session.specs.declared.Session.{Session}
 use Rattle.rows.specs.Rows.{Given, REGISTER}
 use Rattle.fitting.specs.Fitting.{criterion-fits, criterion-trials}
-use Rattle.order.specs.Order.{Numbered, numbered, priority, above-last, candidates, up-to}
+use Rattle.order.specs.Order.{Numbered, numbered, priority, above-last, candidates, up-to, Rises}
 use Rattle.route.specs.Advance.{in-session, advance}
 use Rattle.listing.specs.Listing.{Listing, listed, numbers}
 use Rattle.route.specs.declared.Advanced.{Advanced}
@@ -77,11 +77,6 @@ pub record Listable (g : Given) (image r before : List ℕ) (p : Profile) (q : R
   pub case-known : T (leb (g .case) 3)
   pub type-known : T (leb (g .registration) 2)
   pub room : length (listed (criterion-fits q g p) (p .criteria)) ≤ length before
-
--- each one's priority is below that of all after it
-abbrev pub Rises : List Numbered → Type 0
-Rises [] = Unit {0}
-Rises (n ∷ ns) = T (every (λ m. ltb (priority n) (priority m)) ns) × Rises ns
 
 -- "every fitting criterion, priority rising, criterion numbers in the first places of a lent list, the rest untouched"
 pub record ListsAll (g : Given) (p : Profile) (q : Request) (before : List ℕ) (l : Listing) : Type 0 where
