@@ -1,5 +1,5 @@
--- The page to open first: the three demands of the product (README, "What is proved"), each a short statement whose proof cites where
--- the work is. They speak of the definitions; "one answer" says that the code's answers are these and no others.
+-- The page to open first: the three demands (README, "What is proved"), each a short statement whose proof cites where the work is.
+-- They speak of the definitions; "one answer" says that the code's answers are these and no others.
 use mathlib.Core.Bool.{Bool, true}
 use mathlib.Core.Path.{_≡_, sym, ap, _∙_}
 use mathlib.Core.Logic.{_↔_}
