@@ -10,7 +10,7 @@ use Rattle.profile.specs.Out.{Out, good, bad, _>>=_, _>>_, must}
 use Rattle.profile.specs.Places.{Profile, word, u8, counted, reading-strings, reading-rows, reading-members, reading-criteria, placed, has, texts, spaced, row-numbers, member-numbers, criterion-numbers, ends, judge}
 use Rattle.profile.specs.declared.Row.{Row}
 use Rattle.profile.specs.declared.Member.{Member}
-use Rattle.profile.specs.Answers.{Table, field-out, check-out, Tabled, Counted, opening, criteria-on, members-on, rows-on, judged-out, refusal-of, Fit, Filled, LaidAs, Laid}
+use Rattle.profile.specs.Answers.{Table, field-out, check-out, Tabled, Counted, opening, criteria-on, members-on, rows-on, judged-out, refusal-of, Filled, LaidAs, Laid}
 use Rattle.profile.specs.Decoded.{offsets, past, layout, laid-criteria, laid-members, laid-rows}
 use Rattle.profile.specs.declared.Layout.{Layout}
 use Rattle.profile.specs.declared.Field.{Field}
@@ -182,12 +182,6 @@ pub tabled-is : (s : List ℕ) (n : ℕ) (table : List ℕ) (f : Field) (at : �
 tabled-is s n table f at h e g =
     let t : Tabled (Is at) s n table = subst (λ (x : Field). Tabled x s n table) g e in
     (t .2, record { count = h; long = t .3; inside = t .1 })
-
-pub fit-refused : (s table : List ℕ) (r : Judged) (f : Field) (m q : ℕ) → r ≡ refusal-of f → f ≡ Refused m q → Fit r s table
-fit-refused s table r f m q e g = subst (λ (x : Judged). Fit x s table) (sym (e ∙ ap refusal-of g)) tt
-
-pub fit-end : (s : List ℕ) (strs : List (List ℕ)) (n₂ n at : ℕ) (f : Field) (end : ℕ) → field-out f ≡ ends (reading-criteria s strs n₂ n at) → f ≡ Is end → end ≡ length s → at + 15 * n ≡ length s
-fit-end s strs n₂ n at f end e g h = sym (criteria-are s strs n₂ n at end (is e g) .1) ∙ h
 
 -- ---- where the sections lie
 

@@ -111,11 +111,6 @@ abbrev pub refusal-of : Field → Judged
 refusal-of (Is v) = Judged.Refused 0 0
 refusal-of (Refused m p) = Judged.Refused m p
 
--- the layout of an accepted image fits it
-abbrev pub Fit : Judged → List ℕ → List ℕ → Type 0
-Fit (Accepted y) s table = Table s (y .strings) table × (y .criteria + 15 * y .«criterion_count» ≡ length s)
-Fit (Judged.Refused m p) s table = Unit {0}
-
 -- the layout of an accepted image is z
 abbrev pub laid-as : Judged → Layout → Type 0
 laid-as (Accepted y) z = y ≡ z

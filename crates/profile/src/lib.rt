@@ -7,7 +7,7 @@ ghost use Rattle.profile.specs.Places.{texts, spaced, row-numbers, membe
 ghost use Rattle.profile.specs.Image.{refused};
 ghost use Rattle.profile.specs.Kept.{kept, Judges};
 ghost use Rattle.profile.specs.Decoded.{stored-in, string-of, laid-criteria, laid-members, laid-rows};
-ghost use Rattle.profile.specs.Answers.{field-out, LaidAs, Laid, Table, Known, opening, criteria-on, members-on, rows-on, judged-out, refusal-of, Fit};
+ghost use Rattle.profile.specs.Answers.{field-out, LaidAs, Laid, Table, Known, opening, criteria-on, members-on, rows-on, judged-out, refusal-of};
 
 mod criteria;
 mod fields;
@@ -130,7 +130,6 @@ fn open_image(s: &[u8]) -> Field
 fn from_criteria(s: &[u8], table: &[u16; 1024], uses: &[u8; 1024], y: Layout, at: usize) -> Judged
     requires { ⌜ (at ≤ 120000) × Known (now s) (y .strings) (now table) (now uses) ⌝ }
     ensures { λ r. ⌜ judged-out r (now (s .entry)) (now (table .entry)) ≡ criteria-on (now (s .entry)) (texts (now (s .entry)) (y .strings) (now (table .entry))) (spaced (row-numbers (now (s .entry))) 7 (y .rows) (y .«row_count»)) (spaced (member-numbers (now (s .entry))) 4 (y .members) (y .«member_count»)) (y .«row_count») at ⌝ }
-    ensures fit { λ r. ⌜ Fit r (now (s .entry)) (now (table .entry)) ⌝ }
     ensures laid { λ r. ⌜ LaidAs r (laid-criteria (now (s .entry)) y at) ⌝ }
 {
     let f = count_at(s, at, 64);
@@ -171,7 +170,6 @@ fn from_members(
 ) -> Judged
     requires { ⌜ (at ≤ 50000) × (rows ≤ 50000) × (n ≤ 2048) × Known (now s) strings (now table) (now uses) ⌝ }
     ensures { λ r. ⌜ judged-out r (now (s .entry)) (now (table .entry)) ≡ members-on (now (s .entry)) (texts (now (s .entry)) strings (now (table .entry))) (spaced (row-numbers (now (s .entry))) 7 rows n) n rows at ⌝ }
-    ensures fit { λ r. ⌜ Fit r (now (s .entry)) (now (table .entry)) ⌝ }
     ensures laid { λ r. ⌜ LaidAs r (laid-members (now (s .entry)) strings rows n at) ⌝ }
 {
     let f = count_at(s, at, 16384);
@@ -203,7 +201,6 @@ fn from_members(
 fn from_rows(s: &[u8], table: &[u16; 1024], strings: usize, at: usize) -> Judged
     requires { ⌜ (at ≤ 32768) × Table (now s) strings (now table) ⌝ }
     ensures { λ r. ⌜ judged-out r (now (s .entry)) (now (table .entry)) ≡ rows-on (now (s .entry)) (texts (now (s .entry)) strings (now (table .entry))) at ⌝ }
-    ensures fit { λ r. ⌜ Fit r (now (s .entry)) (now (table .entry)) ⌝ }
     ensures laid { λ r. ⌜ LaidAs r (laid-rows (now (s .entry)) strings at) ⌝ }
 {
     let f = count_at(s, at, 2048);
@@ -223,7 +220,6 @@ fn from_rows(s: &[u8], table: &[u16; 1024], strings: usize, at: usize) -> Judged
 fn judge_image(s: &[u8], table: &mut [u16; 1024]) -> Judged
     requires { ⌜ length (now table) ≡ 1024 ⌝ }
     ensures { λ r. ⌜ judged-out r (now (s .entry)) (now (table .exit)) ≡ judge (now (s .entry)) ⌝ }
-    ensures fit { λ r. ⌜ Fit r (now (s .entry)) (now (table .exit)) ⌝ }
     ensures laid { λ r. ⌜ Laid r (now (s .entry)) (now (table .entry)) (now (table .exit)) ⌝ }
 {
     let f = open_image(s);

@@ -1,4 +1,4 @@
-use Rattle.profile.proofs.ImageLaws.{fit-refused, fit-end, crit-1, crit-2, crit-3, crit-4, laid-refused, laid-end}
+use Rattle.profile.proofs.ImageLaws.{crit-1, crit-2, crit-3, crit-4, laid-refused, laid-end}
 use native.Mathlib.Omega.{arith}
 use Rattle.profile.proofs.Laws.{is, counted-inv}
 use borrow.Author.Needs.{needs}
@@ -18,7 +18,7 @@ refusal-requires : tie.Need-refusal-requires
 refusal-requires c κs = search needs
 
 returns : tie.Need-returns
-returns c = (search crit-1, (search fit-refused, search laid-refused))
+returns c = (search crit-1, search laid-refused)
 
 add-criteria : tie.Need-add-criteria
 add-criteria c = search needs
@@ -40,16 +40,16 @@ refusal-requires-2 : tie.Need-refusal-requires-2
 refusal-requires-2 c κs = search needs
 
 returns-2 : tie.Need-returns-2
-returns-2 c = (search crit-2, (search fit-refused, search laid-refused))
+returns-2 c = (search crit-2, search laid-refused)
 
 add-t13 : tie.Need-add-t13
 add-t13 c = search needs
 
 returns-3 : tie.Need-returns-3
-returns-3 c = (search crit-3, ((c .before .before .before .before .before .before .before .before .before .before .pre .1 .tabled, search fit-end), search laid-end))
+returns-3 c = (search crit-3, search laid-end)
 
 returns-4 : tie.Need-returns-4
-returns-4 c = (search crit-4, (tt, record { says = tt }))
+returns-4 c = (search crit-4, record { says = tt })
 
 pub from-criteria-spec : {M : Type 1} → statement M
 from-criteria-spec =

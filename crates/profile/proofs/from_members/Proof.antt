@@ -1,4 +1,4 @@
-use Rattle.profile.proofs.ImageLaws.{fit-refused, mem-1, mem-2, mem-3, mem-4, counted-next, laid-refused, laid-on-members}
+use Rattle.profile.proofs.ImageLaws.{mem-1, mem-2, mem-3, mem-4, counted-next, laid-refused, laid-on-members}
 use native.Mathlib.Omega.{arith}
 use denote.Ref.{now}
 use Rattle.profile.proofs.Laws.{is, counted-inv}
@@ -20,7 +20,7 @@ refusal-requires : tie.Need-refusal-requires
 refusal-requires c κs = search needs
 
 returns : tie.Need-returns
-returns c = (search mem-1, (search fit-refused, search laid-refused))
+returns c = (search mem-1, search laid-refused)
 
 add-members : tie.Need-add-members
 add-members c = search needs
@@ -40,7 +40,7 @@ refusal-requires-2 : tie.Need-refusal-requires-2
 refusal-requires-2 c κs = search needs
 
 returns-2 : tie.Need-returns-2
-returns-2 c = (search mem-2, (search fit-refused, search laid-refused))
+returns-2 c = (search mem-2, search laid-refused)
 
 all-placed-requires : tie.Need-all-placed-requires
 all-placed-requires c κs = search needs
@@ -55,7 +55,7 @@ refusal-requires-3 : tie.Need-refusal-requires-3
 refusal-requires-3 c κs = search needs
 
 returns-3 : tie.Need-returns-3
-returns-3 c = (search mem-3, (search fit-refused, search laid-refused))
+returns-3 c = (search mem-3, search laid-refused)
 
 add-t15 : tie.Need-add-t15
 add-t15 c = search needs
@@ -76,7 +76,7 @@ returns-4 c =
     let f = at-members .before .before .before in
     let n = counted-inv _ _ _ _ (is (f .before .before .count-at .ensures) (f .f .given .1)) in
     let e = counted-next _ _ _ _ _ _ _ (at-members .members .ensures) (g .g .given .1) in
-    (search mem-4, (c .from-criteria .ensures .1 .0, laid-on-members (now (f .before .before .before .before .args .s)) _ _ _ _ _ _ _ (c .from-criteria .ensures .1 .1) (n .0) e))
+    (search mem-4, laid-on-members (now (f .before .before .before .before .args .s)) _ _ _ _ _ _ _ (c .from-criteria .ensures .1) (n .0) e)
 
 pub from-members-spec : {M : Type 1} → statement M
 from-members-spec =

@@ -1,4 +1,4 @@
-use Rattle.profile.proofs.ImageLaws.{fit-refused, rows-f, rows-g, rows-h, laid-refused, laid-on-rows}
+use Rattle.profile.proofs.ImageLaws.{rows-f, rows-g, rows-h, laid-refused, laid-on-rows}
 use Rattle.profile.proofs.Decode.{rows-are}
 use native.Mathlib.Omega.{arith}
 use denote.Ref.{now}
@@ -20,7 +20,7 @@ refusal-requires : tie.Need-refusal-requires
 refusal-requires c κs = search needs
 
 returns : tie.Need-returns
-returns c = (search rows-f, (search fit-refused, search laid-refused))
+returns c = (search rows-f, search laid-refused)
 
 judge-strings-requires : tie.Need-judge-strings-requires
 judge-strings-requires c κs = search needs
@@ -44,7 +44,7 @@ refusal-requires-2 : tie.Need-refusal-requires-2
 refusal-requires-2 c κs = search needs
 
 returns-2 : tie.Need-returns-2
-returns-2 c = (search rows-g, (search fit-refused, search laid-refused))
+returns-2 c = (search rows-g, search laid-refused)
 
 add-from-members : tie.Need-add-from-members
 add-from-members c = search needs
@@ -66,7 +66,7 @@ returns-3 c =
     let f = j .before .before .before in
     let n = counted-inv _ _ _ _ (is (f .before .before .count-at .ensures) (f .f .given .1)) in
     let e = rows-are _ _ _ _ _ (is (g .before .before .rows .ensures) (g .g .given .1)) .1 in
-    (search rows-h, (c .from-members .ensures .1 .0, laid-on-rows (now (f .before .before .before .before .args .s)) _ _ _ _ _ (c .from-members .ensures .1 .1) (n .0) e))
+    (search rows-h, laid-on-rows (now (f .before .before .before .before .args .s)) _ _ _ _ _ (c .from-members .ensures .1) (n .0) e)
 
 pub from-rows-spec : {M : Type 1} → statement M
 from-rows-spec =

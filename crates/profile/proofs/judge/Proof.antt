@@ -23,7 +23,7 @@ refused-with-requires : tie.Need-refused-with-requires
 refused-with-requires c κs = search needs
 
 returns : tie.Need-returns
-returns c = judged-yes _ _ _ (c .before .before .before .judge-image .ensures .0) _ (c .before .y .given .1) (c .before .before .before .judge-image .ensures .1 .1)
+returns c = judged-yes _ _ _ (c .before .before .before .judge-image .ensures .0) _ (c .before .y .given .1) (c .before .before .before .judge-image .ensures .1)
 
 returns-2 : tie.Need-returns-2
 returns-2 c = judged-no _ _ _ (c .before .before .before .before .judge-image .ensures .0) _ _ _ (c .before .before .number .given .1) (c .refused-with .ensures)

@@ -1,4 +1,4 @@
-use Rattle.profile.proofs.ImageLaws.{fit-refused, image-f, image-g, image-h, tabled-is, opening-inv, laid-whole-refused, laid-whole, filled-is, opening-count}
+use Rattle.profile.proofs.ImageLaws.{image-f, image-g, image-h, tabled-is, opening-inv, laid-whole-refused, laid-whole, filled-is, opening-count}
 use Rattle.profile.proofs.Laws.{is}
 use borrow.Author.Needs.{needs}
 use Rattle.profile.proofs.judge_image.Statement.{statement}
@@ -17,7 +17,7 @@ refusal-requires : tie.Need-refusal-requires
 refusal-requires c κs = search needs
 
 returns : tie.Need-returns
-returns c = (search image-f, (search fit-refused, search laid-whole-refused))
+returns c = (search image-f, search laid-whole-refused)
 
 strings-requires : tie.Need-strings-requires
 strings-requires c κs =
@@ -35,7 +35,7 @@ refusal-requires-2 : tie.Need-refusal-requires-2
 refusal-requires-2 c κs = search needs
 
 returns-2 : tie.Need-returns-2
-returns-2 c = (search image-g, (search fit-refused, search laid-whole-refused))
+returns-2 c = (search image-g, search laid-whole-refused)
 
 from-rows-requires : tie.Need-from-rows-requires
 from-rows-requires c κs =
@@ -51,7 +51,7 @@ returns-3 c =
     let at-strings = g .before .before in
     let f = at-strings .before .before .before in
     let n = opening-count _ _ (is (f .before .before .open-image .ensures) (f .f .given .1)) in
-    (search image-h, (c .from-rows .ensures .1 .0, laid-whole _ _ _ _ _ _ (c .from-rows .ensures .1 .1) n (filled-is _ _ _ _ _ _ (at-strings .strings .ensures .1) (g .g .given .1))))
+    (search image-h, laid-whole _ _ _ _ _ _ (c .from-rows .ensures .1) n (filled-is _ _ _ _ _ _ (at-strings .strings .ensures .1) (g .g .given .1)))
 
 pub judge-image-spec : {M : Type 1} → statement M
 judge-image-spec =
