@@ -380,23 +380,21 @@ module _ (s starts colons : List ℕ) (head fields i : ℕ) (x : Indexed s start
       subst (λ (r : FieldParts). FieldSays s q head i r) (sym parts-so) (subst (λ (y : Request). FieldSays s y head i (parts-of at l)) same says)
 
 -- what `read` wrote
-pub indexed : (s starts colons starts′ colons′ : List ℕ) (m u head fields i : ℕ) → Read s starts colons starts′ colons′ (Readable m u head fields) → i < fields → Indexed s starts′ colons′ head fields i
-indexed s starts colons starts′ colons′ m u head fields i k inside =
-    let a = accepted-by s m u head fields (k .answer) in
-    let ls = lines-from (take head s) (fields-start (head-of s)) in
-    let lines : field-lines (head-of s) ≡ ls = ap field-lines (a .head-is) ∙ a .lines-are in
-    let count : length ls ≡ fields = sym (fields-count ls (a .request .fields) (a .fields-are)) ∙ readable-count (head-of s) (read-request s) m u head fields (a .request) (k .answer) (a .read) in
-    let starts-long : length (starts-of (head-of s) (read-request s)) ≡ fields =
-    ap (λ (o : Option Request). length (starts-of (head-of s) o)) (a .read) ∙ starts-length (fields-start (head-of s)) (field-lines (head-of s)) ∙ ap length lines ∙ count
-    in
-    let colons-long : length (colons-of (head-of s) (read-request s)) ≡ fields =
-    ap (λ (o : Option Request). length (colons-of (head-of s) o)) (a .read) ∙ colons-length (fields-start (head-of s)) (field-lines (head-of s)) ∙ ap length lines ∙ count
-    in
-    record {
-      method = m;
-      uri = u;
-      read = k .answer;
-      starts-are = ap (take fields) (k .starts-are) ∙ take-at (starts-of (head-of s) (read-request s)) _ fields starts-long;
-      colons-are = ap (take fields) (k .colons-are) ∙ take-at (colons-of (head-of s) (read-request s)) _ fields colons-long;
-      inside = inside;
-    }
+module _ (s starts colons starts′ colons′ : List ℕ) (m u head fields : ℕ) (k : Read s starts colons starts′ colons′ (Readable m u head fields)) where
+  pub places-are : (take fields starts′ ≡ starts-of (head-of s) (read-request s)) × (take fields colons′ ≡ colons-of (head-of s) (read-request s))
+  places-are =
+      let a = accepted-by s m u head fields (k .answer) in
+      let ls = lines-from (take head s) (fields-start (head-of s)) in
+      let lines : field-lines (head-of s) ≡ ls = ap field-lines (a .head-is) ∙ a .lines-are in
+      let count : length ls ≡ fields = sym (fields-count ls (a .request .fields) (a .fields-are)) ∙ readable-count (head-of s) (read-request s) m u head fields (a .request) (k .answer) (a .read) in
+      let starts-long : length (starts-of (head-of s) (read-request s)) ≡ fields =
+      ap (λ (o : Option Request). length (starts-of (head-of s) o)) (a .read) ∙ starts-length (fields-start (head-of s)) (field-lines (head-of s)) ∙ ap length lines ∙ count
+      in
+      let colons-long : length (colons-of (head-of s) (read-request s)) ≡ fields =
+      ap (λ (o : Option Request). length (colons-of (head-of s) o)) (a .read) ∙ colons-length (fields-start (head-of s)) (field-lines (head-of s)) ∙ ap length lines ∙ count
+      in
+      (ap (take fields) (k .starts-are) ∙ take-at (starts-of (head-of s) (read-request s)) _ fields starts-long,
+      ap (take fields) (k .colons-are) ∙ take-at (colons-of (head-of s) (read-request s)) _ fields colons-long)
+
+  pub indexed : (i : ℕ) → i < fields → Indexed s starts′ colons′ head fields i
+  indexed i inside = record { method = m; uri = u; read = k .answer; starts-are = places-are .0; colons-are = places-are .1; inside = inside }

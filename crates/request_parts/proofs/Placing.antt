@@ -36,7 +36,7 @@ placed s starts colons starts′ colons′ m u head fields k = record {
   method = m;
   uri = u;
   read = k .answer;
-  each = λ i inside. indexed s starts colons starts′ colons′ m u head fields i k inside;
+  each = indexed s starts colons starts′ colons′ m u head fields k;
 }
 
 module _ (s starts colons : List ℕ) (head fields : ℕ) (k : Placed s starts colons head fields) where

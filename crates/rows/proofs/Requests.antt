@@ -5,16 +5,13 @@ use mathlib.Core.List.{List}
 use Prim.Native.Nat.{ℕ, _+_, _≤_, _<_, zero-le}
 use native.Mathlib.Omega.{arith}
 use lib.ListN.{length, take, drop}
-use lib.Seq.{take-at}
 use Rattle.octets.proofs.Options.{Ok}
-use Rattle.request.specs.Places.{head-of, part, fields-start, field-lines, reading, starts-of, colons-of, Read, field-parts, Indexed}
+use Rattle.request.specs.Places.{head-of, part, fields-start, Read, field-parts, Indexed}
 use Rattle.request.specs.Request.{Request, read-request}
 use Rattle.request.specs.declared.FieldParts.{FieldParts}
 use Rattle.request.specs.declared.Reading.the-variants.{Readable}
-use Rattle.request.specs.Steps.{lines-from}
 use Rattle.request.proofs.Accepted.{Accepts}
-use Rattle.request.proofs.Answers.{fields-count, starts-length, colons-length}
-use Rattle.request.proofs.Indexing.{FieldSays, accepted-by, few, field-says}
+use Rattle.request.proofs.Indexing.{FieldSays, accepted-by, few, field-says, places-are, readable-count}
 use Rattle.request.proofs.Few.{Small, request-small}
 use Rattle.rows.specs.Tried.{or-blank, request-of, Placed}
 use Rattle.rows.specs.declared.Places.{Places}
@@ -32,9 +29,6 @@ request-of-small s = go (read-request s) (request-small s)
     go : (o : Option Request) → Ok Small o → Small (or-blank o)
     go none h = record { fields-le = zero-le; body-le = zero-le }
     go (some q) h = h
-
-count-is : (h : List ℕ) (m u e n : ℕ) (q : Request) → Readable m u e n ≡ reading h (some q) → length (q .fields) ≡ n
-count-is h m u e n q r = cc
 
 module _ (s starts colons : List ℕ) (p : Places) (k : Placed s starts colons p) where
   accepted : Accepts s (p .head) (p .method) (p .uri) (fields-start (head-of s))
@@ -74,7 +68,7 @@ module _ (s starts colons : List ℕ) (p : Places) (k : Placed s starts colons p
   method-inside = omega (arith, uri-order, uri-inside)
 
   pub fields-many : length (request-of s .fields) ≡ p .fields
-  fields-many = count-is (head-of s) (p .method) (p .uri) (p .head) (p .fields) (request-of s) (k .read ∙ ap (reading (head-of s)) reads-so)
+  fields-many = readable-count (head-of s) (read-request s) (p .method) (p .uri) (p .head) (p .fields) (request-of s) (k .read) reads-so
 
   pub indexed-at : (i : ℕ) → i < p .fields → Indexed s starts colons (p .head) (p .fields) i
   indexed-at i more = record {
@@ -98,18 +92,5 @@ module _ (s starts colons : List ℕ) (p : Places) (k : Placed s starts colons p
 pub placed : (s starts colons starts′ colons′ : List ℕ) (m u e n : ℕ) → Read s starts colons starts′ colons′ (Readable m u e n)
     → Placed s starts′ colons′ (record { method = m; uri = u; head = e; fields = n })
 placed s starts colons starts′ colons′ m u e n k =
-    let a = accepted-by s m u e n (k .answer) in
-    let ls = lines-from (take e s) (fields-start (head-of s)) in
-    let lines : field-lines (head-of s) ≡ ls = ap field-lines (a .head-is) ∙ a .lines-are in
-    let count : length ls ≡ n = sym (fields-count ls (a .request .fields) (a .fields-are)) ∙ count-is (head-of s) m u e n (a .request) (k .answer ∙ ap (reading (head-of s)) (a .read)) in
-    let starts-long : length (starts-of (head-of s) (read-request s)) ≡ n =
-    ap (λ (o : Option Request). length (starts-of (head-of s) o)) (a .read) ∙ starts-length (fields-start (head-of s)) (field-lines (head-of s)) ∙ ap length lines ∙ count
-    in
-    let colons-long : length (colons-of (head-of s) (read-request s)) ≡ n =
-    ap (λ (o : Option Request). length (colons-of (head-of s) o)) (a .read) ∙ colons-length (fields-start (head-of s)) (field-lines (head-of s)) ∙ ap length lines ∙ count
-    in
-    record {
-      read = k .answer;
-      starts-are = ap (take n) (k .starts-are) ∙ take-at (starts-of (head-of s) (read-request s)) _ n starts-long;
-      colons-are = ap (take n) (k .colons-are) ∙ take-at (colons-of (head-of s) (read-request s)) _ n colons-long;
-    }
+    let w = places-are s starts colons starts′ colons′ m u e n k in
+    record { read = k .answer; starts-are = w .0; colons-are = w .1 }
