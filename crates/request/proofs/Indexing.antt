@@ -392,9 +392,10 @@ module _ (s starts colons starts′ colons′ : List ℕ) (m u head fields : ℕ
       in
       let colons-long : length (colons-of (head-of s) (read-request s)) ≡ fields =
       ap (λ (o : Option Request). length (colons-of (head-of s) o)) (a .read) ∙ colons-length (fields-start (head-of s)) (field-lines (head-of s)) ∙ ap length lines ∙ count
-      in
-      (ap (take fields) (k .starts-are) ∙ take-at (starts-of (head-of s) (read-request s)) _ fields starts-long,
-      ap (take fields) (k .colons-are) ∙ take-at (colons-of (head-of s) (read-request s)) _ fields colons-long)
+      in (
+        ap (take fields) (k .starts-are) ∙ take-at (starts-of (head-of s) (read-request s)) _ fields starts-long,
+        ap (take fields) (k .colons-are) ∙ take-at (colons-of (head-of s) (read-request s)) _ fields colons-long,
+      )
 
   pub indexed : (i : ℕ) → i < fields → Indexed s starts′ colons′ head fields i
   indexed i inside = record { method = m; uri = u; read = k .answer; starts-are = places-are .0; colons-are = places-are .1; inside = inside }

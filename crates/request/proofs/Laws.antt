@@ -11,10 +11,12 @@ use lib.Seq.{take-at}
 use Rattle.octets.specs.Lists.{total}
 use Rattle.request.specs.Places.{head-of, part, fields-start, over, Read}
 use Rattle.request.specs.Request.{Request, read-request}
+use Rattle.request.specs.Values.{reduced}
 use Rattle.request.specs.declared.Reading.the-variants.{Readable}
 use Rattle.request.proofs.Accepted.{Accepts}
 use Rattle.request.proofs.Few.{weight, request-few}
 use Rattle.request.proofs.Indexing.{accepted-by, readable-count}
+use Rattle.request.proofs.Norm.{reduced-le}
 
 -- a request that was read: m, u and e are where its method, its URI and its head end, n is how many fields it has
 pub record Readably (s : List ℕ) (m u e n : ℕ) : Type 0 where
@@ -49,8 +51,19 @@ read-says s starts colons starts′ colons′ m u e n k =
 
 -- ---- what was written to the front of a lent place
 
-pub over-inside : (w d e : List ℕ) (n : ℕ) → n ≡ length w → e ≡ over w d → n ≤ length e
+over-inside : (w d e : List ℕ) (n : ℕ) → n ≡ length w → e ≡ over w d → n ≤ length e
 over-inside w d e n en ee = omega (arith, en, ap length ee, length-append w (drop (length w) d))
 
-pub over-front : (w d e : List ℕ) (n : ℕ) → n ≡ length w → e ≡ over w d → take (n - 0) (drop 0 e) ≡ w
+over-front : (w d e : List ℕ) (n : ℕ) → n ≡ length w → e ≡ over w d → take (n - 0) (drop 0 e) ≡ w
 over-front w d e n en ee = ap (λ (k : ℕ). take k e) (sub-zero n) ∙ ap (take n) ee ∙ take-at w (drop (length w) d) n (sym en)
+
+-- a value that was reduced into a room
+module _ (raw before room : List ℕ) (n : ℕ) (en : n ≡ length (reduced raw)) (er : room ≡ over (reduced raw) before) where
+  pub reduced-front : take (n - 0) (drop 0 room) ≡ reduced raw
+  reduced-front = over-front (reduced raw) before room n en er
+
+  pub reduced-inside : n ≤ length room
+  reduced-inside = over-inside (reduced raw) before room n en er
+
+  pub reduced-short : length raw ≤ 65535 → length (take (n - 0) room) ≤ 65535
+  reduced-short h = omega (arith, ap length reduced-front, reduced-le raw)

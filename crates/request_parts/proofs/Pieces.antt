@@ -9,8 +9,7 @@ use Rattle.request.specs.Places.{over, values-from, piece-at}
 use Rattle.request.specs.Request.{name-as-matched}
 use Rattle.request.specs.Values.{reduced, never-cut, values-of}
 use Rattle.request.specs.declared.Piece.{Piece}
-use Rattle.request.proofs.Laws.{over-inside, over-front}
-use Rattle.request.proofs.Norm.{reduced-le}
+use Rattle.request.proofs.Laws.{reduced-front}
 use Rattle.request.proofs.Values.{ValueAt, value-says, values-past, values-cut, values-whole}
 
 -- the values before p are counted
@@ -43,15 +42,6 @@ module _ (v : List ℕ) where
   pub piecing-end : (p n : ℕ) → Piecing v p n → length v < p → n ≡ length (values-from v 0)
   piecing-end p n w h = omega (arith, w .sum, ap length (values-past v p h))
 
--- ---- a value in its room
-
-module _ (raw before room : List ℕ) (n : ℕ) (en : n ≡ length (reduced raw)) (er : room ≡ over (reduced raw) before) where
-  pub reduced-inside : n ≤ length room
-  reduced-inside = over-inside (reduced raw) before room n en er
-
-  pub reduced-short : length raw ≤ 65535 → length (take (n - 0) room) ≤ 65535
-  reduced-short h = omega (arith, ap length (over-front (reduced raw) before room n en er), reduced-le raw)
-
 -- ---- by the name as it is matched
 
 module _ (written name : List ℕ) (en : name ≡ name-as-matched written) (r : Bool) (e : r ≡ never-cut name) where
@@ -64,5 +54,5 @@ module _ (written name : List ℕ) (en : name ≡ name-as-matched written) (r : 
   pub pieces-counted : r ≡ false → (raw before room : List ℕ) (n : ℕ) → n ≡ length (reduced raw) → room ≡ over (reduced raw) before
       → (m : ℕ) → m ≡ length (values-from (take (n - 0) room) 0) → m ≡ length (values-of (name-as-matched written) (reduced raw))
   pieces-counted h raw before room n en er m em =
-      em ∙ ap (λ (l : List ℕ). length (values-from l 0)) (over-front (reduced raw) before room n en er)
+      em ∙ ap (λ (l : List ℕ). length (values-from l 0)) (reduced-front raw before room n en er)
       ∙ sym (ap length (values-cut (name-as-matched written) (reduced raw) (sym by-name ∙ h)))

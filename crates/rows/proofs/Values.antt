@@ -3,17 +3,15 @@ use mathlib.Core.Bool.{Bool, true, false, _||_, or-false}
 use mathlib.Core.Path.{_≡_, refl, sym, ap, _∙_, subst}
 use mathlib.Core.List.{List}
 use Prim.Native.Nat.{ℕ, _+_, _-_, _≤_, _<_}
-use native.Mathlib.Nat.{sub-zero}
 use native.Mathlib.Omega.{arith}
-use lib.ListN.{length, take, drop, length-append}
-use lib.Seq.{take-at}
+use lib.ListN.{length, take}
 use Rattle.octets.specs.Lists.{some-of, total}
 use Rattle.octets.proofs.Kept.{total-const}
 use Rattle.pattern.specs.Answers.{meets-text}
 use Rattle.request.specs.Places.{part, over, values-from, piece-at}
 use Rattle.request.specs.Values.{reduced, never-cut, values-of}
 use Rattle.request.specs.declared.Piece.{Piece}
-use Rattle.request.proofs.Norm.{reduced-le}
+use Rattle.request.proofs.Laws.{reduced-front}
 use Rattle.request.proofs.Values.{ValueAt, value-says, values-past, values-cut, values-whole}
 use Rattle.rows.specs.Trying.{values-row}
 use Rattle.rows.specs.declared.Verdict.{Verdict}
@@ -79,15 +77,7 @@ module _ (c v : List ℕ) where
 
 module _ (raw before room : List ℕ) (n : ℕ) (en : n ≡ length (reduced raw)) (er : room ≡ over (reduced raw) before) where
   front : take (n - 0) room ≡ reduced raw
-  front =
-      ap (take (n - 0)) er ∙ ap (λ (k : ℕ). take k (over (reduced raw) before)) (sub-zero n)
-      ∙ take-at (reduced raw) (drop (length (reduced raw)) before) n (sym en)
-
-  pub reduced-inside : n ≤ length room
-  reduced-inside = omega (arith, en, ap length er, length-append (reduced raw) (drop (length (reduced raw)) before))
-
-  pub reduced-short : length raw ≤ 65535 → length (take (n - 0) room) ≤ 65535
-  reduced-short h = omega (arith, ap length front, reduced-le raw)
+  front = reduced-front raw before room n en er
 
   module _ (name c : List ℕ) (r : Bool) (e : r ≡ never-cut name) where
     pub values-once : (m : Bool) → m ≡ meets-text false c (take (n - 0) room) → r ≡ true

@@ -1,5 +1,6 @@
 use borrow.Author.Needs.{needs}
-use Rattle.request_parts.proofs.Pieces.{reduced-inside, reduced-short, one-value, pieces-counted}
+use Rattle.request.proofs.Laws.{reduced-inside, reduced-short}
+use Rattle.request_parts.proofs.Pieces.{one-value, pieces-counted}
 use Rattle.request_parts.proofs.count_values.Statement.{statement}
 use Rattle.request_parts.proofs.count_values.Tie as tie
 

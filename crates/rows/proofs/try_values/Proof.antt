@@ -1,5 +1,6 @@
 use borrow.Author.Needs.{needs}
-use Rattle.rows.proofs.Values.{reduced-inside, reduced-short, values-once, values-pieces}
+use Rattle.request.proofs.Laws.{reduced-inside, reduced-short}
+use Rattle.rows.proofs.Values.{values-once, values-pieces}
 use Rattle.rows.proofs.try_values.Statement.{statement}
 use Rattle.rows.proofs.try_values.Tie as tie
 
