@@ -21,7 +21,7 @@ of-rows form count rows members =
     ++ two 1 ++ criterion 7 form 0 count 3 0
 
 -- From with Content joe, as it is and negated; and DNF with From negated and To in one group
-abbrev from-joe : ℕ → List ℕ
+abbrev pub from-joe : ℕ → List ℕ
 from-joe negated = of-rows 0 1 (row negated 2 0 1) (membership 0 0)
 
 abbrev from-not-to : List ℕ
