@@ -1,8 +1,8 @@
 #!/bin/sh
 # What docs/STATEMENTS.md names exists. The library from C: the header, the archive's names, what is installed, document 01's worked
 # images and its marked trigger, the examples, requests from the wire, threads, stack, garbage; then the fixed cases of the second
-# program and COUNT random ones from SEED, also through the plain C that the bench compares with. Patterns from C, on three times as
-# many blocks of lines; and the reading of requests, 50,000 random ones.
+# program and COUNT random ones from SEED. Patterns from C, on three times as many blocks of lines; and the reading of requests,
+# 50,000 random ones.
 # check.sh [SEED COUNT]
 set -eu
 cd "$(dirname "$0")/.."
@@ -10,11 +10,11 @@ seed=${1:-1} count=${2:-20000}
 out=target/tests
 . tests/over.sh
 
-# build NAME FLAGS FILE..
+# build NAME FILE..
 build() {
-    program=$1 with=$2
-    shift 2
-    CFLAGS_X86="-O2 -Wall -Wextra -Werror $with" sh tests/cc-x86.sh build "$out/$program" "$@"
+    program=$1
+    shift
+    CFLAGS_X86="-O2 -Wall -Wextra -Werror" sh tests/cc-x86.sh build "$out/$program" "$@"
 }
 run() {
     program=$1
@@ -28,31 +28,28 @@ compare() {
 
 python3 tests/statements.py
 make_library ifc
-make_library pattern_lines
-make_library request_parts
+make_library probes
 cargo build --release --offline --quiet --manifest-path second/Cargo.toml --target-dir "$out/second"
 second=$out/second/release/second
 sh tests/symbols.sh "$lib"
 sh tests/cc-x86.sh judge tests/header.c
 sh tests/install.sh
-build worked "" tests/worked.c "$lib"
+build worked tests/worked.c "$lib"
 run worked
 sh tests/examples.sh "$out" "$lib"
 sh tests/sip.sh "$lib"
 for name in marked threads stack garbage; do
-    build "$name" "" "tests/$name.c" "$lib"
+    build "$name" "tests/$name.c" "$lib"
     run "$name"
 done
 "$second" make "$seed" "$count" >"$out/made"
-build cases "" tests/cases.c "$lib"
+build cases tests/cases.c "$lib"
 compare cases
-build cases_plain "$plain" tests/cases.c bench/plain.c
-compare cases_plain
-build lines "" tests/lines.c target/staticlib/libpattern_lines.a
+build lines tests/lines.c target/staticlib/libprobes.a
 "$second" lines make "$seed" "$((3 * count))" >"$out/made-lines"
 run lines "$out/made-lines" "$out/met"
 "$second" lines compare "$out/made-lines" "$out/met"
-build parts "" tests/parts.c target/staticlib/librequest_parts.a
+build parts tests/parts.c target/staticlib/libprobes.a
 "$second" parts make "$seed" 50000 >"$out/requests"
 run parts "$out/requests" "$out/counts"
 "$second" parts compare "$out/requests" "$out/counts"

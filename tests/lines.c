@@ -1,4 +1,4 @@
-/* lines LINES ANSWERS: runs the blocks of lines of the second program through libpattern_lines.a and writes what it answered to
+/* lines LINES ANSWERS: runs the blocks of lines of the second program through libprobes.a and writes what it answered to
  * ANSWERS, for `second lines compare LINES ANSWERS`.
  *
  * Each block is run twice: pattern and block end where an inaccessible page begins, then begin where one ends. A byte read outside

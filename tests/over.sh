@@ -1,5 +1,5 @@
-# Sourced by the scripts that build C over the library: the archive, and what maps the calls to the plain C of bench/ instead.
-lib=target/staticlib/libifc.a plain='-include bench/as_plain.h'
+# Sourced by the scripts that build C over the library.
+lib=target/staticlib/libifc.a
 
 # A crate's archive; what its making prints is shown if it fails. As that says nothing for minutes, a line comes first, unless the
 # archive is newer than every source.

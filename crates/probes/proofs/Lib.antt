@@ -1,0 +1,5 @@
+pub mod Answering
+pub mod Counting
+pub mod PartsCounting
+pub mod Pieces
+pub mod Placing
