@@ -16,11 +16,11 @@ use Rattle.octets.proofs.Kept.{only-sound}
 use Rattle.octets.proofs.Bits.{shl-one, Mask, mask-none, mask-skip, mask-add}
 use Rattle.profile.specs.Image.{Member, Criterion, Profile}
 use Rattle.request.specs.Request.{Request}
-use Rattle.rows.specs.Rows.{Given}
+use Rattle.rows.specs.declared.Given.{Given}
 use Rattle.rows.specs.declared.Verdict.{Verdict}
 use Rattle.fitting.specs.Fitting.{by-form, cnf, dnf, part-fits, memberships, fits-at, trigger-fits, criterion-fits, trials-at, trials-from, criterion-trials}
 use Rattle.fitting.specs.Trigger.{of-rows, marked, fits-by}
-use Rattle.fitting.specs.Rowwise.{trigger-of, criterion-of, trials-of, tried-of, TriedRow, TriedRows, Considered}
+use Rattle.fitting.specs.Rowwise.{fits-nth, trials-nth, trigger-of, criterion-of, trials-of, tried-of, TriedRow, TriedRows, Considered}
 use Rattle.fitting.specs.declared.Marks.{Marks}
 
 -- ---- tests that agree on a list's members
@@ -135,15 +135,15 @@ module _ (fits : ℕ → Bool) (trials : ℕ → ℕ) (ms : List Member) (case :
 
 -- ---- these are the definitions of Fitting
 
-pub fits-join : (q : Request) (g : Given) (p : Profile) (c : Criterion) → criterion-of (λ r. fits-at q g (getElem? (p .rows) r)) (p .members) (g .case) c ≡ criterion-fits q g p c
+pub fits-join : (q : Request) (g : Given) (p : Profile) (c : Criterion) → criterion-of (fits-nth q g p) (p .members) (g .case) c ≡ criterion-fits q g p c
 unfolding criterion-fits trigger-fits memberships criterion-of trigger-of
 fits-join q g p c = refl
 
-trials-join : (q : Request) (p : Profile) (first n : ℕ) → trials-of (λ r. trials-at q (getElem? (p .rows) r)) first n ≡ trials-from q (p .rows) first n
+trials-join : (q : Request) (p : Profile) (first n : ℕ) → trials-of (trials-nth q p) first n ≡ trials-from q (p .rows) first n
 unfolding trials-from trials-of
 trials-join q p first zero = refl
 trials-join q p first (suc n) = ap (λ (k : ℕ). trials-at q (getElem? (p .rows) first) + k) (trials-join q p (suc first) n)
 
-pub tried-join : (q : Request) (g : Given) (p : Profile) (c : Criterion) → tried-of (λ r. trials-at q (getElem? (p .rows) r)) (g .case) c ≡ criterion-trials q g p c
+pub tried-join : (q : Request) (g : Given) (p : Profile) (c : Criterion) → tried-of (trials-nth q p) (g .case) c ≡ criterion-trials q g p c
 unfolding criterion-trials tried-of
 tried-join q g p c = ap (λ (n : ℕ). pick (part-fits (c .part) (g .case)) n 0) (trials-join q p (c .first) (c .count))

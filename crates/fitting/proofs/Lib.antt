@@ -1,5 +1,4 @@
 pub mod Evaluating
-pub mod Judged
 pub mod Members
 pub mod Ruling
 pub mod Spans

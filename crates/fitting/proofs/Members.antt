@@ -13,8 +13,9 @@ use Rattle.octets.proofs.Bits.{low-bit}
 use Rattle.octets.proofs.Tests.{left, right, T-of, not-or}
 use Rattle.fitting.specs.Fitting.{in-rows, cnf, dnf, part-fits}
 use Rattle.profile.proofs.Opened.{spaced-cons, spaced-none, spaced-start}
-use Rattle.profile.specs.Places.{word, member-numbers}
-use Rattle.profile.specs.declared.Member as declared
+use Rattle.cells.specs.Places.{word}
+use Rattle.entries.specs.Places.{member-numbers}
+use Rattle.entries.specs.declared.Member as declared
 use Rattle.profile.specs.Image.{Member}
 use Rattle.profile.specs.Decoded.{member-from}
 use Rattle.fitting.specs.Trigger.{members-at, of-rows, marked, hit, fits-by, groups-hold, group-hit, hits, holds-at}

@@ -11,7 +11,7 @@ use Rattle.profile.specs.Image.{Row, Criterion, Profile}
 use Rattle.profile.proofs.Accepted.{Fine, Sound}
 use Rattle.request.specs.Request.{Request}
 use Rattle.request.proofs.Few.{Small}
-use Rattle.rows.specs.Rows.{Given}
+use Rattle.rows.specs.declared.Given.{Given}
 use Rattle.rows.proofs.Trials.{row-le}
 use Rattle.fitting.specs.Fitting.{part-fits, trials-at, trials-from, criterion-trials}
 

@@ -8,7 +8,8 @@ use lib.Dec.{leb, ltb, eqb}
 use Rattle.octets.specs.Lists.{pick, every, some-of, only}
 use Rattle.profile.specs.Image.{Row, Member, Criterion, Profile}
 use Rattle.request.specs.Request.{Request}
-use Rattle.rows.specs.Rows.{Given, row-fits, row-trials}
+use Rattle.rows.specs.Rows.{row-fits, row-trials}
+use Rattle.rows.specs.declared.Given.{Given}
 
 -- ---- a trigger
 

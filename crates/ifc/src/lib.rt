@@ -6,6 +6,7 @@ use lookups::check;
 use lookups::information;
 use lookups::server;
 use route::advance;
+use rows::Given;
 use session::Session;
 use session::open;
 use session::report as report_on;
@@ -115,7 +116,8 @@ pub extern "C" fn ifc_list(
 ) -> u32
     ensures { λ r. ⌜ ListTo (now (image .entry)) (now (request .entry)) case registration (now (list .entry)) (now (list .exit)) r (now (place .exit)) (now (count .exit)) (now (examined .exit)) (now (trials .exit)) ⌝ }
 {
-    let a = list_into(image, request, case, registration, list);
+    let given = Given { case, registration };
+    let a = list_into(image, request, given, list);
     *place = a.place;
     *count = a.count;
     *examined = a.examined;

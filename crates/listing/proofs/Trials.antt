@@ -15,7 +15,8 @@ use Rattle.profile.specs.Judging.{judge}
 use Rattle.profile.proofs.Accepted.{Sound, accepted-sound}
 use Rattle.request.specs.Request.{Request, read-request}
 use Rattle.request.proofs.Few.{Small, request-small}
-use Rattle.rows.specs.Rows.{Given, REGISTER}
+use Rattle.rows.specs.Rows.{REGISTER}
+use Rattle.rows.specs.declared.Given.{Given}
 use Rattle.fitting.specs.Fitting.{criterion-fits, criterion-trials}
 use Rattle.fitting.proofs.Trials.{all-below}
 use Rattle.listing.specs.Listing.{Listing, listed, refuse-list, filled, fill, fill-with, list-read, list-judged, listing}

@@ -8,13 +8,13 @@ use native.Mathlib.Omega.{arith}
 use mathlib.Core.List.{List}
 use lib.ListN.{length, take, drop, getD, length-map, length-take, length-drop, List·getD-eq-default}
 use Rattle.profile.specs.Image.{Stored}
-use Rattle.profile.specs.Places.{word, text-at}
+use Rattle.cells.specs.Places.{word, text-at}
 use Rattle.profile.specs.Decoded.{stored, stored-in, nothing, string-of}
 use Rattle.lookups.specs.Lookups.{the-part, part-of}
-use Rattle.profile.specs.Answers.{Table}
+use Rattle.cells.specs.Answers.{Table}
 use Rattle.lookups.specs.declared.Lookup.{Lookup}
 use Rattle.profile.proofs.Found.{string-at, part-in}
-use Rattle.profile.proofs.Uses.{taken}
+use Rattle.cells.proofs.Uses.{taken}
 
 -- where string i stands, and that it is there
 abbrev at-part : ℕ → ℕ → Lookup

@@ -12,7 +12,7 @@ use Rattle.octets.proofs.Each.{each-at}
 use Rattle.profile.specs.Image as image
 use Rattle.profile.specs.Image.{Stored, Judged, accepted, refused}
 use Rattle.profile.specs.Judging.{judge}
-use Rattle.profile.specs.Places.{word}
+use Rattle.cells.specs.Places.{word}
 use Rattle.profile.specs.Decoded.{layout, strings, stored-in, string-of, criterion-with, criterion-from, profile-in}
 use Rattle.lookups.specs.Lookups.{checked, check, no-part, the-part, look-at, look-judged, its-server, its-information, its-part, server, information, part-of, Checks, Looks, Serves, Informs}
 use Rattle.profile.specs.Kept.{kept, judgement, Judges}

@@ -4,9 +4,9 @@ ghost use mathlib.Core.Option.{some};
 ghost use Prim.Native.Nat.{_+_, _≤_};
 ghost use lib.ListN.{length};
 ghost use Rattle.octets.specs.Lists.{pick};
-ghost use Rattle.profile.specs.Answers.{Table};
+ghost use Rattle.cells.specs.Answers.{Table};
 ghost use Rattle.profile.specs.Decoded.{stored-in, string-of};
-ghost use Rattle.profile.specs.Places.{criterion-numbers};
+ghost use Rattle.entries.specs.Places.{criterion-numbers};
 ghost use Rattle.lookups.specs.Lookups.{no-part, the-part, part-of, server as server-of, information as information-of, Checks, Looks, Serves, Informs};
 
 // What the check of an image answers: the refusal number (0 if none) and its place.
@@ -61,7 +61,7 @@ fn stored_part(s: &[u8], table: &[u16; 1024], n: usize, i: usize) -> Lookup
         };
     }
     let o = octets::as_index(table[i]);
-    let n = profile::number(s, o);
+    let n = cells::number(s, o);
     Lookup {
         refusal: 0,
         place: 0,
@@ -76,7 +76,7 @@ fn string_named(image: &[u8], at: usize, information: bool) -> usize
     requires { ⌜ (at + 15 ≤ length (now image)) × (length (now image) ≤ 32768) ⌝ }
     ensures { λ r. ⌜ r ≡ pick information (criterion-numbers (now (image .entry)) at .info) (criterion-numbers (now (image .entry)) at .server) ⌝ }
 {
-    let c = profile::read_criterion(image, at);
+    let c = entries::read_criterion(image, at);
     if information {
         return c.info;
     }

@@ -1,15 +1,13 @@
--- Two machines that agree on bytes take the same parts.
+-- Two machines that agree on bytes begin parts at the same places.
 use mathlib.Core.Path.{_≡_, sym, subst}
 use mathlib.Core.Bool.{Bool}
+use mathlib.Core.Logic.{_↔_}
 use mathlib.Core.List.{List}
 use Prim.Native.Nat.{ℕ, suc, _+_, _<_}
 use lib.Dec.{T}
-use lib.ListN.{getD, drop}
+use lib.ListN.{drop}
 use lib.Seq.{getD-drop}
-use Rattle.machine.specs.Machine.{Machine, Live, live-end, live-on, Starts, starts-none, starts-live, StartsAt, Leftmost}
-
-abbrev pub Bytes : List ℕ → Type 0
-Bytes l = (i : ℕ) → getD l i 0 < 256
+use Rattle.machine.specs.Machine.{Machine, Live, live-end, live-on, Starts, starts-none, starts-live, StartsAt, Bytes}
 
 pub record Agree (M N : Machine) : Type 0 where
   pub first : (a : Bool) (p : ℕ) → M .first a p ≡ N .first a p
@@ -40,12 +38,5 @@ module _ {M N : Machine} (g : Agree M N) where
 bytes-drop : (l : List ℕ) (j : ℕ) → Bytes l → Bytes (drop j l)
 bytes-drop l j h i = subst (λ (n : ℕ). n < 256) (sym (getD-drop j l i 0)) (h (j + i))
 
-pub starts-at-agree : {M N : Machine} (s : List ℕ) (j : ℕ) → Agree M N → Bytes s → StartsAt M s j → StartsAt N s j
-starts-at-agree s j g h v = starts-agree g v (bytes-drop s j h)
-
-pub leftmost-agree : {M N : Machine} (s : List ℕ) (r : ℕ) → Agree M N → Bytes s → Leftmost M s r → Leftmost N s r
-leftmost-agree s r g h l = record {
-  within = l .within;
-  before = λ j k i v. l .before j k i (starts-agree (agree-back g) v (bytes-drop s j h));
-  found = λ i. starts-agree g (l .found i) (bytes-drop s r h);
-}
+pub starts-at-agree : {M N : Machine} → Agree M N → (s : List ℕ) → Bytes s → (j : ℕ) → StartsAt M s j ↔ StartsAt N s j
+starts-at-agree g s h j = (λ v. starts-agree g v (bytes-drop s j h), λ v. starts-agree (agree-back g) v (bytes-drop s j h))

@@ -34,6 +34,10 @@ pub data Starts (M : Machine) (a : Bool) : List ℕ → Type 0 where
 abbrev pub StartsAt : Machine → List ℕ → ℕ → Type 0
 StartsAt M s j = Starts M (eqb j 0) (drop j s)
 
+-- every byte of a text is one
+abbrev pub Bytes : List ℕ → Type 0
+Bytes s = (i : ℕ) → getD s i 0 < 256
+
 -- r is the smallest place at which a part begins, or one above the length where there is none
 pub record Leftmost (M : Machine) (s : List ℕ) (r : ℕ) : Type 0 where
   pub within : r ≤ length s + 1

@@ -1,6 +1,5 @@
 pub mod Chosen
 pub mod Finding
-pub mod Reading
 pub mod Rising
 pub mod Scanning
 pub mod Standings

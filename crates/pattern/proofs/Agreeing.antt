@@ -2,22 +2,22 @@
 use mathlib.Core.Path.{_≡_, refl, sym, ap, _∙_, subst, subst⁻¹}
 use mathlib.Core.Bool.{Bool, true, false, not, _&&_, _||_, and-true, and-false, and-comm, and-assoc, or-true, or-false}
 use mathlib.Core.List.{List, [], _∷_, _++_}
-use Prim.Native.Nat.{ℕ, zero, suc, _<_, _≤_}
+use Prim.Native.Nat.{ℕ, zero, suc, _+_, _*_, _/_, _%_, _<_, _≤_}
 use native.Mathlib.Omega.{arith}
 use lib.Dec.{ltb}
 use lib.ListN.{length, getD, List·getD-append}
 use borrow.Author.Tests.{ltb-true, ltb-false}
 use Rattle.octets.specs.Bits.{bit}
 use Rattle.octets.specs.Lists.{pick}
-use Rattle.octets.proofs.Bits.{bit-zero}
+use Rattle.octets.proofs.Bits.{bit-zero, mask-bit}
 use Rattle.machine.specs.Machine.{first-mask, last-mask, in-set, has, met, machine-of, Closed}
 use Rattle.machine.proofs.Agreeing.{Agree}
+use Rattle.basic.specs.Sets.{word, words}
+use Rattle.basic.specs.Pattern.{Atom, Elem}
 use Rattle.pattern.specs.Answers.{meet-as}
-use Rattle.pattern.specs.Pattern.{Atom, Elem}
 use Rattle.pattern.specs.Prepared.{atom-of, no-marks, may-lead, marks, set-as, sets-of, befores, shape-by}
 use Rattle.pattern.proofs.Compiled.{met-at, compiled}
 use Rattle.pattern.proofs.Positions.{leads, ends, follows, size-is, free-bit, ends-bit, leads-bit, follows-bit, leads-past, ends-past, precedes-past, follows-past, befores-length}
-use Rattle.pattern.proofs.Words.{in-words}
 
 -- ---- the masks
 
@@ -68,6 +68,20 @@ module _ (es : List Elem) (old-before : List ℕ) where
       behind k past = subst (λ (n : ℕ). n ≤ k) (size-is es) past
 
 -- ---- the sets
+
+word-at : (f : ℕ → Bool) (i : ℕ) → i < 4 → getD (words f) i 0 ≡ word f i
+unfolding words
+word-at f zero h = refl
+word-at f (suc zero) h = refl
+word-at f (suc (suc zero)) h = refl
+word-at f (suc (suc (suc zero))) h = refl
+word-at f (suc (suc (suc (suc i)))) h = absurd (omega arith)
+
+pub in-words : (f : ℕ → Bool) (b : ℕ) → b < 256 → in-set (words f) b ≡ f b
+unfolding in-set
+in-words f b h =
+    let e : 64 * (b / 64) + b % 64 ≡ b = omega arith in
+    ap (λ (n : ℕ). bit n (b % 64)) (word-at f (b / 64) (omega arith)) ∙ mask-bit 64 (λ k. f (64 * (b / 64) + k)) (b % 64) (omega arith) ∙ ap f e
 
 in-as : (fold : Bool) (a : Atom) (b : ℕ) → b < 256 → in-set (set-as fold a) b ≡ meet-as fold a b
 unfolding set-as

@@ -10,10 +10,10 @@ use lib.Dec.{T, eqb, eqb→eq}
 use lib.ListN.{length, drop}
 use borrow.Author.Tests.{eq-eqb}
 use Rattle.octets.proofs.Tests.{both, left, right, T-of, not-T-of}
-use Rattle.pattern.specs.Answers.{matches-as, read-matches, meets-text, meet-as, fits-from, first-of, first-fit}
+use Rattle.basic.specs.Pattern.{Pattern, Fits, Matches}
+use Rattle.basic.specs.Reading.{read-pattern}
+use Rattle.pattern.specs.Answers.{matches-as, read-matches, meets-text, meet-as, fits-from, begins-of, begins-at, first-fit}
 use Rattle.pattern.specs.Matching.{front}
-use Rattle.pattern.specs.Pattern.{Pattern, Fits, Matches}
-use Rattle.pattern.specs.Reading.{read-pattern}
 use Rattle.pattern.proofs.Finding.{First, first-of-smallest}
 use Rattle.pattern.proofs.Meaning.{front-sound, front-complete, written-iff, name-iff}
 
@@ -81,16 +81,18 @@ part-iff fold p t j = (sound, complete)
         (front-complete (meet-as fold) (p .at-end) (q .after) (q .end) (q .fits)))
 
 module _ (fold : Bool) (s t : List ℕ) (p : Pattern) (reads : read-pattern s ≡ some p) where
-  first-one : First (fits-from fold p t) (suc (length t)) 0 (first-fit fold s t)
+  begins-iff : (j : ℕ) → T (begins-at fold s t j) ↔ PartAt fold p t j
+  unfolding begins-at
+  begins-iff j = subst⁻¹ (λ (o : Option Pattern). T (begins-of fold o t j) ↔ PartAt fold p t j) reads (part-iff fold p t j)
+
+  first-one : First (begins-at fold s t) (suc (length t)) 0 (first-fit fold s t)
   unfolding first-fit
-  first-one =
-      subst⁻¹ (λ (o : Option Pattern). First (fits-from fold p t) (suc (length t)) 0 (first-of fold o t)) reads
-      (first-of-smallest (fits-from fold p t) (suc (length t)) 0)
+  first-one = first-of-smallest (begins-at fold s t) (suc (length t)) 0
 
   -- a part begins there, if it lies within the text
   pub first-begins : first-fit fold s t ≤ length t → PartAt fold p t (first-fit fold s t)
-  first-begins h = part-iff fold p t (first-fit fold s t) .0 (T-of (first-one .found (omega arith)))
+  first-begins h = begins-iff (first-fit fold s t) .0 (T-of (first-one .found (omega arith)))
 
   -- and none before it
   pub first-least : (j : ℕ) → j < first-fit fold s t → PartAt fold p t j → ⊥
-  first-least j h q = not-T-of (first-one .before j (omega arith) h) (part-iff fold p t j .1 q)
+  first-least j h q = not-T-of (first-one .before j (omega arith) h) (begins-iff j .1 q)

@@ -2,15 +2,15 @@
 use mathlib.Core.Path.{_≡_, refl, subst, subst⁻¹}
 use mathlib.Core.Bool.{Bool, true, false, not, _&&_, _||_}
 use mathlib.Core.List.{List, [], _∷_}
-use mathlib.Core.Logic.{_⊎_, inl, inr}
+use mathlib.Core.Logic.{_↔_, _⊎_, inl, inr}
 use Prim.Native.Nat.{ℕ, zero, suc}
 use lib.Dec.{T}
 use Rattle.octets.specs.Lists.{empty}
 use Rattle.octets.proofs.Tests.{both, left, right, or-left, or-right, or-cases}
 use Rattle.machine.specs.Machine.{Machine, Live, live-end, live-on, Starts, starts-none, starts-live}
 use Rattle.machine.proofs.Scan.{dead}
+use Rattle.basic.specs.Pattern.{Atom, Elem, once, star, Pattern}
 use Rattle.pattern.specs.Matching.{front}
-use Rattle.pattern.specs.Pattern.{Atom, Elem, once, star, Pattern}
 use Rattle.pattern.specs.Prepared.{atom-of}
 use Rattle.pattern.proofs.Positions.{free, leads, ends, follows}
 
@@ -173,7 +173,7 @@ module _ (meet : Atom → ℕ → Bool) (start end : Bool) (es : List Elem) wher
   abbrev at-front : Bool → Bool
   at-front a = not start || a
 
-  pub starts-front : (a : Bool) (l : List ℕ) → Starts mach a l → T (at-front a) × T (front meet end es l)
+  starts-front : (a : Bool) (l : List ℕ) → Starts mach a l → T (at-front a) × T (front meet end es l)
   starts-front a [] (starts-none z) =
       let x = right (at-front a) (free es && (not end || true)) z in
       (left (at-front a) (free es && (not end || true)) z, go-front meet end es [] (left (free es) (not end || true) x))
@@ -196,5 +196,8 @@ module _ (meet : Atom → ℕ → Bool) (start end : Bool) (es : List Elem) wher
       (both (free es) (not end || false) (left (free es) (not end) g) (or-left (not end) false (right (free es) (not end) g))))
   starts-go a (b ∷ s) f (inr (q, l, m, h)) = starts-live (both (at-front a) (leads es q) f l) (good-live (b ∷ s) q (m, h))
 
-  pub front-starts : (a : Bool) (l : List ℕ) → T (at-front a) → T (front meet end es l) → Starts mach a l
-  front-starts a l f h = starts-go a l f (front-go meet end es l h)
+  pub starts-iff : (a : Bool) (l : List ℕ) → Starts mach a l ↔ T (at-front a && front meet end es l)
+  starts-iff a l = (
+    λ v. let f = starts-front a l v in both (at-front a) (front meet end es l) (f .0) (f .1),
+    λ t. starts-go a l (left (at-front a) (front meet end es l) t) (front-go meet end es l (right (at-front a) (front meet end es l) t)),
+  )

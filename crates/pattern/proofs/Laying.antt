@@ -11,16 +11,30 @@ use lib.Seq.{set-set, getD-set-same}
 use borrow.Author.Tests.{ne-eqb}
 use Rattle.octets.specs.Bytes.{lower, upper}
 use Rattle.octets.specs.Lists.{text, pick, some-of}
-use Rattle.pattern.specs.Drawn.{drawn}
-use Rattle.pattern.specs.Pattern.{Atom, byte}
-use Rattle.pattern.specs.Places.{map-got, PieceAt}
+use Rattle.basic.specs.Drawn.{drawn}
+use Rattle.basic.specs.Pattern.{Atom, byte, meets}
+use Rattle.basic.specs.Places.{map-got, PieceAt}
+use Rattle.basic.specs.Reading.{Read, read, atom}
+use Rattle.basic.specs.Sets.{word, words}
+use Rattle.basic.specs.declared.reader.Piece.{Piece}
+use Rattle.basic.proofs.Atoms.{piece-found, piece-lost, map-none, map-some, plain-is}
+use Rattle.basic.proofs.Listing.{piece-none, piece-some}
+use Rattle.basic.proofs.Words.{only-words}
 use Rattle.pattern.specs.Prepared.{set-as, LaidAt}
-use Rattle.pattern.specs.Reading.{Read, read, atom}
-use Rattle.pattern.specs.Sets.{word, words}
-use Rattle.pattern.specs.declared.reader.Piece.{Piece}
-use Rattle.pattern.proofs.Atoms.{piece-found, piece-lost, map-none, map-some, plain-is}
-use Rattle.pattern.proofs.Listing.{piece-none, piece-some}
-use Rattle.pattern.proofs.Words.{only-words, folded-set}
+use Rattle.pattern.proofs.Folding.{folded-set}
+
+-- ---- on a name, and as written
+
+pub as-name : (set r : List ℕ) (fold : Bool) → fold ≡ true → ((f : ℕ → Bool) → set ≡ words f → r ≡ words (λ b. f (lower b) || f (upper b)))
+    → (a : Atom) → set ≡ drawn true a → r ≡ set-as fold a
+unfolding drawn set-as
+as-name set r true e fo a s = fo (meets a) s
+as-name set r false e fo a s = absurd (true≢false (sym e))
+
+pub as-written : (set : List ℕ) (fold : Bool) → fold ≡ false → (a : Atom) → set ≡ drawn true a → set ≡ set-as fold a
+unfolding drawn set-as
+as-written set true e a s = absurd (true≢false e)
+as-written set false e a s = s
 
 -- ---- one byte
 

@@ -7,8 +7,8 @@ use mathlib.Core.List.{List, [], _∷_, _++_}
 use lib.Dec.{T}
 use Rattle.octets.specs.Lists.{pick, empty}
 use Rattle.octets.proofs.Tests.{both, left, right, or-left, or-right, or-cases}
-use Rattle.pattern.specs.Pattern.{Atom, Elem, once, star, Pattern, Fits, done, one, stop, more, Matches, meets, meets-name}
-use Rattle.pattern.specs.Matching.{repeated, single-then, front, somewhere, matches, written-matches, name-matches}
+use Rattle.basic.specs.Pattern.{Atom, Elem, once, star, Pattern, Fits, done, one, stop, more, Matches, meets}
+use Rattle.pattern.specs.Matching.{meets-name, repeated, single-then, front, somewhere, matches, written-matches, name-matches}
 
 module _ (meet : Atom → ℕ → Bool) (end : Bool) where
   -- a front part of s fits the elements, and nothing is left where the end is anchored

@@ -12,7 +12,7 @@ use borrow.Author.Tests.{eq-eqb, ne-eqb, ltb-true, ltb-false}
 use Rattle.octets.specs.Bits.{bit, Below}
 use Rattle.octets.specs.Lists.{pick}
 use Rattle.octets.proofs.Bits.{bit-zero, bit-pow, bit-add, bit-cut, below-wider}
-use Rattle.pattern.specs.Pattern.{Elem}
+use Rattle.basic.specs.Pattern.{Elem}
 use Rattle.pattern.specs.Prepared.{starred, no-marks, may-lead, mark, before-at, marks, befores}
 use Rattle.pattern.specs.declared.edition1.Marks.{Marks}
 
@@ -181,7 +181,7 @@ ends-bit es p = ap (bit (marks no-marks es .run)) (sym (zero-add p)) ∙ runs no
 pub follows-bit : (es : List Elem) (p q : ℕ) → q < length es → bit (getD (befores no-marks es) q 0) p ≡ follows es p q
 follows-bit es p q h = ap (bit (getD (befores no-marks es) q 0)) (sym (zero-add p)) ∙ before-all no-marks es q h zero-low .1 p
 
-pub at-bit : (m : Marks) (es : List Elem) → marks m es .at ≡ m .at + length es
+at-bit : (m : Marks) (es : List Elem) → marks m es .at ≡ m .at + length es
 at-bit m [] = sym (add-zero (m .at))
 at-bit m (e ∷ es) = let z : m .at + 1 + length es ≡ m .at + suc (length es) = omega arith in at-bit (mark m (starred e)) es ∙ z
 

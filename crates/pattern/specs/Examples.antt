@@ -7,9 +7,8 @@ use Prim.Native.String.{String}
 use mathlib.Core.List.{List, [], _∷_}
 use lib.Dec.{T}
 use Rattle.octets.specs.Lists.{text, every, agree}
-use Rattle.pattern.specs.Answers.{was-read}
-use Rattle.pattern.specs.Pattern.{Pattern}
-use Rattle.pattern.specs.Reading.{read-pattern}
+use Rattle.basic.specs.Reading.{was-read, read-pattern}
+use Rattle.basic.specs.Pattern.{Pattern}
 use Rattle.pattern.specs.Matching.{written-matches, name-matches}
 
 -- a string that is refused; so many elements, which are refused or not; what a pattern does on a text, and on a name

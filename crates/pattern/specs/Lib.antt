@@ -1,9 +1,4 @@
 pub mod Answers
-pub mod Drawn
 pub mod Examples
 pub mod Matching
-pub mod Pattern
-pub mod Places
 pub mod Prepared
-pub mod Reading
-pub mod Sets

@@ -3,7 +3,12 @@ use mathlib.Core.Bool.{Bool, true, false, _&&_, _||_}
 use Prim.Native.Nat.{ℕ}
 use mathlib.Core.List.{List, [], _∷_}
 use Rattle.octets.specs.Lists.{pick, empty}
-use Rattle.pattern.specs.Pattern.{Atom, Elem, once, star, Pattern, meets, meets-name}
+use Rattle.octets.specs.Bytes.{lower, upper}
+use Rattle.basic.specs.Pattern.{Atom, Elem, once, star, Pattern, meets}
+
+-- "On a name an element meets a byte if it meets its lower or its upper form"
+abbrev pub meets-name : Atom → ℕ → Bool
+meets-name a b = meets a (lower b) || meets a (upper b)
 
 -- any number of bytes that m takes, and then k says of what is left whether the later elements fit at its front
 abbrev pub repeated : (ℕ → Bool) → (List ℕ → Bool) → List ℕ → Bool

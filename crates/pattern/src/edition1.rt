@@ -5,17 +5,17 @@ ghost use Prim.Native.Nat.{_+_, _^_, _<_, _≤_};
 ghost use lib.Bits.{bitOr};
 ghost use lib.ListN.{length, set};
 ghost use Rattle.octets.specs.Lists.{pick};
-ghost use Rattle.pattern.specs.Drawn.{drawn};
-ghost use Rattle.pattern.specs.Pattern.{Atom, byte};
-ghost use Rattle.pattern.specs.Prepared.{no-marks, may-lead, mark as marked, before-at, set-as, shape-by, no-shape, takes-part, LaidAt, Loaded};
-use crate::reader::atom_at;
-use crate::reader::is_plain;
-use crate::reader::peek_at;
-use crate::reader::star_at;
-use crate::reader::start_at;
-use crate::reader::stop_at;
-use crate::sets::folded;
-use crate::sets::folded_word;
+ghost use Rattle.basic.specs.Drawn.{drawn};
+ghost use Rattle.basic.specs.Pattern.{Atom, byte};
+ghost use Rattle.pattern.specs.Prepared.{no-marks, may-lead, mark as marked, before-at, set-as, shape-by, no-shape, takes-part, LaidAt, Ready};
+use crate::fold::folded;
+use crate::fold::folded_word;
+use basic::atom_at;
+use basic::is_plain;
+use basic::peek_at;
+use basic::star_at;
+use basic::start_at;
+use basic::stop_at;
 use machine::Shape;
 
 // Of the elements before the position `at`: those that may come right before it, and those that may come first, with `at` among
@@ -171,7 +171,7 @@ fn shape_by(m: Marks, left: bool, right: bool) -> Shape
 }
 
 // The machine that takes no part.
-pub(crate) fn no_shape() -> Shape
+fn no_shape() -> Shape
     ensures { λ r. ⌜ r ≡ no-shape ⌝ }
 {
     Shape {
@@ -197,11 +197,11 @@ fn no_marks() -> Marks
     }
 }
 
-// Reads a pattern into the lent places in one go, element by element. A refused one gives a machine that takes no part; the lent
-// places then hold its elements up to the first fault, and are of no use.
+// Reads a pattern into the lent places in one go, element by element, once for many texts; fold: for names. A refused one gives a machine
+// that takes no part, and what the lent places then hold means nothing.
 pub fn load(s: &[u8], fold: bool, sets: &mut [[u64; 4]; 60], before: &mut [u64; 60]) -> Shape
     requires { ⌜ (length (now sets) ≡ 60) × (length (now before) ≡ 60) ⌝ }
-    ensures { λ r. ⌜ Loaded fold (now (s .entry)) r (now (sets .entry)) (now (sets .exit)) (now (before .entry)) (now (before .exit)) ⌝ }
+    ensures { λ r. ⌜ Ready fold (now (s .entry)) r (now (sets .exit)) (now (before .exit)) ⌝ }
 {
     if s.len() == 0 {
         return no_shape();
@@ -235,7 +235,7 @@ pub fn load(s: &[u8], fold: bool, sets: &mut [[u64; 4]; 60], before: &mut [u64; 
     shape_by(m, left, i < s.len())
 }
 
-// Whether the string that was loaded is a pattern (`Loading.shape-tells`): any other gave the machine that takes no part.
+// Whether the string that was loaded is a pattern (`Ready`, `told`): any other gave the machine that takes no part.
 pub fn is_loaded(h: Shape) -> bool
     ensures { λ r. ⌜ r ≡ takes-part h ⌝ }
 {

@@ -6,7 +6,7 @@ use Prim.Native.Nat.{ℕ, _%_}
 use lib.Dec.{eqb}
 use borrow.Author.Tests.{not-true, not-false}
 use Rattle.octets.specs.Lists.{pick}
-use Rattle.pattern.specs.Answers.{is-pattern}
+use Rattle.basic.specs.Reading.{is-pattern}
 use Rattle.probes.specs.Lines.{matched, LinesTo}
 
 module _ (p : List ℕ) (fold : ℕ) (block : List ℕ) (u : Bool) (e : u ≡ is-pattern p) where

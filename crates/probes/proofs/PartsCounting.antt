@@ -3,25 +3,26 @@ use mathlib.Core.Option.{some}
 use mathlib.Core.Path.{_≡_, sym, ap, _∙_, subst}
 use mathlib.Core.List.{List, []}
 use Prim.Native.Nat.{ℕ, _+_, _-_, _≤_, _<_}
-use native.Mathlib.Nat.{le-refl}
 use native.Mathlib.Omega.{arith}
 use lib.ListN.{length, take, drop, length-drop}
 use lib.Seq.{take-length}
 use Rattle.octets.proofs.Kept.{total-mono, total-const}
-use Rattle.request.specs.Body.{session-lines, request-lines}
-use Rattle.request.specs.Places.{part, Read, body-line, session-from}
-use Rattle.request.specs.declared.BodyLine.{BodyLine}
-use Rattle.request.specs.declared.BodyLine.the-variants.{Typed, Other, Done}
+use Rattle.cuts.specs.Parts.{part}
+use Rattle.contents.specs.Body.{session-lines}
+use Rattle.contents.specs.Places.{body-line, session-from}
+use Rattle.contents.specs.declared.BodyLine.{BodyLine}
+use Rattle.contents.specs.declared.BodyLine.the-variants.{Typed, Other, Done}
+use Rattle.contents.proofs.BodyLines.{TypedAt, OtherAt, LineSays, line-says, session-start}
+use Rattle.request.specs.Request.{request-lines}
+use Rattle.request.specs.Places.{Read, Placed, request-of}
+use Rattle.request.specs.declared.Places.{Places}
 use Rattle.request.specs.declared.Reading.{Reading}
 use Rattle.request.specs.declared.Reading.the-variants.{Unreadable, Readable}
 use Rattle.request.proofs.Answers.{read-none}
-use Rattle.request.proofs.BodyLines.{TypedAt, OtherAt, LineSays, line-says, session-start}
 use Rattle.request.proofs.Few.{weight}
-use Rattle.request.proofs.Laws.{Readably, read-says}
-use Rattle.request.proofs.Parts.{length-part}
-use Rattle.probes.specs.Parts.{counted, parts, PartsTo, Placed, Rooms}
+use Rattle.request.proofs.Readings.{readable, reads-so, short, lines-inside, lines-are, fields-many, fields-few, head-inside}
+use Rattle.probes.specs.Parts.{counted, parts, PartsTo}
 use Rattle.probes.specs.declared.counts.Parts.{Parts}
-use Rattle.probes.proofs.Placing.{placed}
 
 -- ---- lines
 
@@ -85,56 +86,44 @@ module _ (s starts colons starts′ colons′ : List ℕ) (r : Reading) (k : Rea
   unfolding parts counted
   nothing-read e = sym (ap counted (read-none s starts colons starts′ colons′ (subst (Read s starts colons starts′ colons′) e k)))
 
-  module _ (m u head fields : ℕ) (e : r ≡ Readable m u head fields) where
-    read : Read s starts colons starts′ colons′ (Readable m u head fields)
-    read = subst (Read s starts colons starts′ colons′) e k
+  module _ (p : Places) (e : r ≡ Readable p) where
+    pub places-read : Placed s starts′ colons′ p
+    places-read = readable s starts colons starts′ colons′ r k p e
 
-    says : Readably s m u head fields
-    says = read-says s starts colons starts′ colons′ m u head fields read
-
-    pub body-room : head + 4 < 18446744073709551616
-    body-room = omega (arith, says .body-inside, says .short)
-
-    pub body-inside : head + 4 ≤ length s
-    body-inside = says .body-inside
+    pub lines-start : p .lines ≤ length s
+    lines-start = lines-inside s starts′ colons′ p places-read
 
     abbrev rest : List ℕ
-    rest = part s (head + 4) (length s)
+    rest = part s (p .lines) (length s)
 
-    rest-is : rest ≡ says .request .body
-    rest-is =
-        let long : length s - (head + 4) ≡ length (drop (head + 4) s) = sym (length-drop (head + 4) s) in
-        ap (λ (n : ℕ). take n (drop (head + 4) s)) long ∙ take-length (drop (head + 4) s) ∙ sym (says .body-is)
+    rest-is : rest ≡ drop (p .lines) s
+    rest-is = ap (λ (n : ℕ). take n (drop (p .lines) s)) (sym (length-drop (p .lines) s)) ∙ take-length (drop (p .lines) s)
 
-    pub body-short : length rest ≤ 65535
-    body-short = omega (arith, length-part s (head + 4) (length s) (says .body-inside) (le-refl (length s)), says .short)
+    pub rest-short : length rest ≤ 65535
+    rest-short = omega (arith, ap length rest-is, length-drop (p .lines) s, short s starts′ colons′ p places-read)
 
-    pub fields-few : fields ≤ 65535
-    fields-few =
+    pub fields-low : p .fields ≤ 65535
+    fields-low =
         omega (
           arith,
-          says .count,
-          says .few,
-          total-mono (λ f. 1) weight (λ f. omega arith) (says .request .fields),
-          total-const 1 (says .request .fields),
-          says .body-inside,
-          says .short,
+          fields-many s starts′ colons′ p places-read,
+          fields-few s starts′ colons′ p places-read,
+          total-mono (λ f. 1) weight (λ f. omega arith) (request-of s .fields),
+          total-const 1 (request-of s .fields),
+          head-inside s starts′ colons′ p places-read,
+          short s starts′ colons′ p places-read,
         )
 
-    pub text-fits : (room : List ℕ) → Rooms s starts colons room → length s ≤ length room
-    text-fits room w = w .text-room (says .short)
-
-    pub places-read : Placed s starts′ colons′ head fields
-    places-read = placed s starts colons starts′ colons′ m u head fields read
-
-    pub parts-counted : (values lines n : ℕ) → values ≡ parts s .values → lines ≡ length (session-lines rest) → n ≡ fields
+    pub parts-counted : (values lines n : ℕ) → values ≡ parts s .values → lines ≡ length (session-lines rest) → n ≡ p .fields
         → _≡_ {A = Parts} (record { refusal = 0; fields = n; values = values; lines = lines }) (parts s)
-    unfolding parts counted request-lines
+    unfolding parts counted
     parts-counted values lines n ev el en =
-        let whole : parts s ≡ counted (some (says .request)) = ap counted (says .read) in
-        let lines-so : lines ≡ length (request-lines (says .request)) = el ∙ ap (λ (b : List ℕ). length (session-lines b)) rest-is in
-        let values-so : values ≡ counted (some (says .request)) .values = ev ∙ ap (λ (p : Parts). p .values) whole in
-        let fields-so : n ≡ length (says .request .fields) = en ∙ sym (says .count) in
+        let whole : parts s ≡ counted (some (request-of s)) = ap counted (reads-so s starts′ colons′ p places-read) in
+        let lines-so : lines ≡ length (request-lines (request-of s)) =
+        el ∙ ap length (ap session-lines rest-is ∙ lines-are s starts′ colons′ p places-read)
+        in
+        let values-so : values ≡ counted (some (request-of s)) .values = ev ∙ ap (λ (w : Parts). w .values) whole in
+        let fields-so : n ≡ length (request-of s .fields) = en ∙ sym (fields-many s starts′ colons′ p places-read) in
         (λ j. record { refusal = 0; fields = fields-so j; values = values-so j; lines = lines-so j })
         ∙ sym whole
 

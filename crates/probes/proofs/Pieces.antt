@@ -5,12 +5,12 @@ use mathlib.Core.List.{List}
 use Prim.Native.Nat.{ℕ, _+_, _-_, _≤_, _<_}
 use native.Mathlib.Omega.{arith}
 use lib.ListN.{length, take}
-use Rattle.request.specs.Places.{over, values-from, piece-at}
-use Rattle.request.specs.Request.{name-as-matched}
-use Rattle.request.specs.Values.{reduced, never-cut, values-of}
-use Rattle.request.specs.declared.Piece.{Piece}
-use Rattle.request.proofs.Laws.{reduced-front}
-use Rattle.request.proofs.Values.{ValueAt, value-says, values-past, values-cut, values-whole}
+use Rattle.cuts.specs.Parts.{over}
+use Rattle.contents.specs.Places.{values-from, piece-at}
+use Rattle.contents.specs.Values.{reduced, name-as-matched, never-cut, values-of}
+use Rattle.contents.specs.declared.Piece.{Piece}
+use Rattle.contents.proofs.Laws.{reduced-front}
+use Rattle.contents.proofs.Values.{ValueAt, value-says, values-past, values-cut, values-whole}
 
 -- the values before p are counted
 pub record Piecing (v : List ℕ) (p n : ℕ) : Type 0 where
@@ -44,15 +44,12 @@ module _ (v : List ℕ) where
 
 -- ---- by the name as it is matched
 
-module _ (written name : List ℕ) (en : name ≡ name-as-matched written) (r : Bool) (e : r ≡ never-cut name) where
-  by-name : r ≡ never-cut (name-as-matched written)
-  by-name = e ∙ ap never-cut en
-
+module _ (written : List ℕ) (r : Bool) (e : r ≡ never-cut (name-as-matched written)) where
   pub one-value : (raw : List ℕ) → r ≡ true → 1 ≡ length (values-of (name-as-matched written) (reduced raw))
-  one-value raw h = sym (ap length (values-whole (name-as-matched written) (reduced raw) (sym by-name ∙ h)))
+  one-value raw h = sym (ap length (values-whole (name-as-matched written) (reduced raw) (sym e ∙ h)))
 
   pub pieces-counted : r ≡ false → (raw before room : List ℕ) (n : ℕ) → n ≡ length (reduced raw) → room ≡ over (reduced raw) before
       → (m : ℕ) → m ≡ length (values-from (take (n - 0) room) 0) → m ≡ length (values-of (name-as-matched written) (reduced raw))
   pieces-counted h raw before room n en er m em =
       em ∙ ap (λ (l : List ℕ). length (values-from l 0)) (reduced-front raw before room n en er)
-      ∙ sym (ap length (values-cut (name-as-matched written) (reduced raw) (sym by-name ∙ h)))
+      ∙ sym (ap length (values-cut (name-as-matched written) (reduced raw) (sym e ∙ h)))

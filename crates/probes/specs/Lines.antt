@@ -5,7 +5,8 @@ use mathlib.Core.Path.{_≡_}
 use Prim.Native.Nat.{ℕ, suc, _%_}
 use lib.Dec.{eqb}
 use Rattle.octets.specs.Lists.{pick, total}
-use Rattle.pattern.specs.Answers.{is-pattern, meets-text}
+use Rattle.basic.specs.Reading.{is-pattern}
+use Rattle.pattern.specs.Answers.{meets-text}
 
 -- a byte more at the front of the first line
 abbrev pub longer : ℕ → List (List ℕ) → List (List ℕ)

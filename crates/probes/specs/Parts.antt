@@ -2,13 +2,10 @@
 use mathlib.Core.Option.{Option, none, some}
 use mathlib.Core.Path.{_≡_}
 use mathlib.Core.List.{List}
-use Prim.Native.Nat.{ℕ, _≤_, _<_}
+use Prim.Native.Nat.{ℕ}
 use lib.ListN.{length}
 use Rattle.octets.specs.Lists.{total}
-use Rattle.request.specs.Body.{request-lines}
-use Rattle.request.specs.Places.{head-of, reading, Room, Indexed}
-use Rattle.request.specs.Request.{Request, Field, read-request}
-use Rattle.request.specs.declared.Reading.the-variants.{Readable}
+use Rattle.request.specs.Request.{request-lines, Request, Field, read-request}
 use Rattle.probes.specs.declared.counts.Parts.{Parts}
 
 -- the values that a field is cut into
@@ -32,18 +29,3 @@ pub record PartsTo (s : List ℕ) (number fields values lines : ℕ) : Type 0 wh
   pub fields-is : fields ≡ parts s .fields
   pub values-is : values ≡ parts s .values
   pub lines-is : lines ≡ parts s .lines
-
--- ---- what the contracts of private functions say
-
--- the bytes are readable, and each field stands where the places say that `request::read` wrote
-pub record Placed (s starts colons : List ℕ) (head fields : ℕ) : Type 0 where
-  pub method : ℕ
-  pub uri : ℕ
-  pub read : Readable method uri head fields ≡ reading (head-of s) (read-request s)
-  pub each : (i : ℕ) → i < fields → Indexed s starts colons head fields i
-
--- the lent rooms can hold a place for each field, and any value; a request longer than 65,535 bytes is not read
-pub record Rooms (s starts colons room : List ℕ) : Type 0 where
-  pub starts-room : Room s starts
-  pub colons-room : Room s colons
-  pub text-room : length s ≤ 65535 → length s ≤ length room

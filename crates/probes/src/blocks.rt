@@ -51,7 +51,7 @@ fn count(
     let mut at: usize = 0;
     while at <= block.len() {
         let end = line_end(block, at);
-        let m = test(h, sets, before, p, fold, &block[at..end]);
+        let m = test(h, sets, before, &block[at..end]);
         n += one_if(m);
         at = end + 1;
     }
@@ -72,7 +72,7 @@ fn read_and_test(
     ensures { λ r. ⌜ (length (now (sets .exit)) ≡ 60) × (length (now (before .exit)) ≡ 60) ⌝ }
 {
     let h = load(p, fold, sets, before);
-    first_match(h, sets, before, p, fold, text) <= text.len()
+    first_match(h, sets, before, text) <= text.len()
 }
 
 // The lines that are patterns and match the text.

@@ -6,10 +6,10 @@ use mathlib.Core.List.{List, []}
 use lib.ListN.{length, take, getD, length-map, List·getD-eq-default}
 use lib.Seq.{getD-take}
 use Rattle.profile.specs.Image.{Stored}
-use Rattle.profile.specs.Places.{word, text-at}
+use Rattle.cells.specs.Places.{word, text-at}
 use Rattle.profile.specs.Decoded.{stored, stored-in, nothing, string-of}
-use Rattle.profile.specs.Answers.{Table}
-use Rattle.profile.proofs.Uses.{getD-map-in, taken, inside-at}
+use Rattle.cells.specs.Answers.{Table}
+use Rattle.cells.proofs.Uses.{getD-map-in, taken, inside-at}
 
 module _ (s : List ℕ) (n : ℕ) (table : List ℕ) (tb : Table s n table) where
   pub bytes-none : (i : ℕ) → n ≤ i → [] ≡ string-of (stored-in s n table) i .bytes

@@ -6,19 +6,23 @@ use mathlib.Core.List.{List, _++_}
 use lib.ListN.{length, getD, drop}
 use lib.Dec.{leb, eqb}
 use borrow.Author.Tests.{eq-eqb, ne-eqb, le-leb, lt-leb, leb-true}
-use Rattle.profile.specs.Out.{Out, good, bad, _>>=_, _>>_, must}
-use Rattle.profile.specs.Places.{Profile, word, u8, counted, reading-strings, reading-rows, reading-members, reading-criteria, placed, has, texts, spaced, row-numbers, member-numbers, criterion-numbers, ends, judge}
-use Rattle.profile.specs.declared.Row.{Row}
-use Rattle.profile.specs.declared.Member.{Member}
-use Rattle.profile.specs.Answers.{Table, field-out, check-out, Tabled, Counted, opening, criteria-on, members-on, rows-on, judged-out, refusal-of, Filled, LaidAs, Laid}
-use Rattle.profile.specs.Decoded.{offsets, past, layout, laid-criteria, laid-members, laid-rows}
+use Rattle.cells.specs.Out.{Out, good, bad, _>>=_, _>>_, must}
+use Rattle.profile.specs.Places.{Profile, judge}
+use Rattle.cells.specs.Places.{word, u8, counted, reading-strings, texts, ends, offsets, past}
+use Rattle.entries.specs.Places.{reading-rows, reading-members, reading-criteria, placed, has, spaced, row-numbers, member-numbers, criterion-numbers}
+use Rattle.entries.specs.declared.Row.{Row}
+use Rattle.entries.specs.declared.Member.{Member}
+use Rattle.cells.specs.Answers.{Table, field-out, Tabled, Filled}
+use Rattle.entries.specs.Answers.{check-out, Counted}
+use Rattle.profile.specs.Answers.{opening, criteria-on, members-on, rows-on, judged-out, refusal-of, LaidAs, Laid}
+use Rattle.profile.specs.Decoded.{layout, laid-criteria, laid-members, laid-rows}
 use Rattle.profile.specs.declared.Layout.{Layout}
-use Rattle.profile.specs.declared.Field.{Field}
-use Rattle.profile.specs.declared.Field.the-variants.{Is, Refused}
+use Rattle.cells.specs.declared.Field.{Field}
+use Rattle.cells.specs.declared.Field.the-variants.{Is, Refused}
 use Rattle.profile.specs.declared.Judged.{Judged}
-use Rattle.profile.proofs.Laws.{is, refused, must-inv, bind-inv, counted-inv}
-use Rattle.profile.proofs.Many.{ends-bad}
-use Rattle.profile.proofs.Decode.{rows-are, members-are, criteria-are}
+use Rattle.cells.proofs.Laws.{is, refused, must-inv, bind-inv, counted-inv}
+use Rattle.cells.proofs.Many.{ends-bad}
+use Rattle.entries.proofs.Decode.{rows-are, members-are, criteria-are}
 
 pub refusal-is : (f : Field) (m q : ℕ) → f ≡ Refused m q → Judged.Refused m q ≡ refusal-of f
 refusal-is f m q g = sym (ap refusal-of g)
@@ -188,20 +192,29 @@ tabled-is s n table f at h e g =
 pub laid-refused : (z : Layout) (r : Judged) (f : Field) (m q : ℕ) → r ≡ refusal-of f → f ≡ Refused m q → LaidAs r z
 laid-refused z r f m q e g = subst (λ (x : Judged). LaidAs x z) (sym (e ∙ ap refusal-of g)) (record { says = tt })
 
-pub laid-end : (s : List ℕ) (y : Layout) (at : ℕ) (f : Field) (n : ℕ) → field-out f ≡ counted s at 64 → f ≡ Is n
-    → LaidAs (Judged.Accepted (record { strings = y .strings; rows = y .rows; «row_count» = y .«row_count»; members = y .members; «member_count» = y .«member_count»; criteria = at + 2; «criterion_count» = n })) (laid-criteria s y at)
-laid-end s y at f n e g = record {
-  says =
-      ap (λ (k : ℕ). record { strings = y .strings; rows = y .rows; «row_count» = y .«row_count»; members = y .members; «member_count» = y .«member_count»; criteria = at + 2; «criterion_count» = k })
-      (counted-inv s at 64 n (is e g) .0);
+-- the layout with its last section, from the edition b that was read and the number of criteria n
+abbrev ended : Layout → ℕ → ℕ → ℕ → Layout
+ended y at b n = record {
+  edition = b;
+  strings = y .strings;
+  rows = y .rows;
+  «row_count» = y .«row_count»;
+  members = y .members;
+  «member_count» = y .«member_count»;
+  criteria = at + 2;
+  «criterion_count» = n;
 }
 
+pub laid-end : (s : List ℕ) (y : Layout) (at : ℕ) (f : Field) (n b e : ℕ) → field-out f ≡ counted s at 64 → f ≡ Is n → b ≡ getD s 0 0 → e ≡ b
+    → LaidAs (Judged.Accepted (ended y at e n)) (laid-criteria s y at)
+laid-end s y at f n b e read is-n first same = record { says = ap₂ (ended y at) (same ∙ first) (counted-inv s at 64 n (is read is-n) .0) }
+
 pub laid-on-members : (s : List ℕ) (r : Judged) (strings rows n at m next : ℕ)
-    → LaidAs r (laid-criteria s (record { strings = strings; rows = rows; «row_count» = n; members = at + 2; «member_count» = m; criteria = 0; «criterion_count» = 0 }) next)
+    → LaidAs r (laid-criteria s (record { edition = 0; strings = strings; rows = rows; «row_count» = n; members = at + 2; «member_count» = m; criteria = 0; «criterion_count» = 0 }) next)
     → m ≡ word s at → next ≡ at + 2 + 4 * m → LaidAs r (laid-members s strings rows n at)
 laid-on-members s r strings rows n at m next h e f =
-    subst (λ (k : ℕ). LaidAs r (laid-criteria s (record { strings = strings; rows = rows; «row_count» = n; members = at + 2; «member_count» = k; criteria = 0; «criterion_count» = 0 }) (at + 2 + 4 * k))) e
-    (subst (λ (k : ℕ). LaidAs r (laid-criteria s (record { strings = strings; rows = rows; «row_count» = n; members = at + 2; «member_count» = m; criteria = 0; «criterion_count» = 0 }) k)) f h)
+    subst (λ (k : ℕ). LaidAs r (laid-criteria s (record { edition = 0; strings = strings; rows = rows; «row_count» = n; members = at + 2; «member_count» = k; criteria = 0; «criterion_count» = 0 }) (at + 2 + 4 * k))) e
+    (subst (λ (k : ℕ). LaidAs r (laid-criteria s (record { edition = 0; strings = strings; rows = rows; «row_count» = n; members = at + 2; «member_count» = m; criteria = 0; «criterion_count» = 0 }) k)) f h)
 
 pub laid-on-rows : (s : List ℕ) (r : Judged) (strings at n next : ℕ) → LaidAs r (laid-members s strings (at + 2) n next) → n ≡ word s at → next ≡ at + 2 + 7 * n → LaidAs r (laid-rows s strings at)
 laid-on-rows s r strings at n next h e f =

@@ -9,18 +9,21 @@ use lib.ListN.{length, take, drop, getD, getElem?, replicate, List·getD-append,
 use lib.Seq.{take-at}
 use Rattle.profile.specs.Image.{Judged, accepted, refused}
 use Rattle.profile.specs.Judging.{judge}
-use Rattle.profile.specs.Out.{good}
+use Rattle.cells.specs.Out.{good}
+use Rattle.cells.specs.Places as cells
 use Rattle.profile.specs.Places as places
-use Rattle.profile.specs.Places.{word, spaced, reading-strings}
-use Rattle.profile.specs.Decoded.{offsets, layout, strings, stored, stored-in, profile-in}
-use Rattle.profile.specs.Answers.{Table, opening}
+use Rattle.cells.specs.Places.{word, reading-strings, offsets}
+use Rattle.entries.specs.Places.{spaced}
+use Rattle.profile.specs.Decoded.{layout, strings, stored, stored-in, profile-in}
+use Rattle.cells.specs.Answers.{Table}
+use Rattle.profile.specs.Answers.{opening}
 use Rattle.profile.specs.Kept.{kept, judgement, string-table, Judges}
 use Rattle.profile.specs.declared.Layout.{Layout}
 use Rattle.profile.specs.declared.Judgement.{Judgement}
 use Rattle.profile.proofs.Same.{Laid, laid, accepted-good}
 use Rattle.profile.proofs.Placed.{placed-low}
-use Rattle.profile.proofs.Laws.{bind-inv, good-inj}
-use Rattle.profile.proofs.Texts.{sized-inv}
+use Rattle.cells.proofs.Laws.{bind-inv, good-inj}
+use Rattle.cells.proofs.Texts.{sized-inv}
 use Rattle.profile.proofs.ImageLaws.{judge-opens, strings-on, opening-inv, opening-count}
 
 -- ---- the k-th of a section
@@ -91,26 +94,26 @@ opened s j h z = go (judge s) refl (h .answer)
 
 -- ---- the strings
 
-string-end : (s : List ℕ) (at : ℕ) (a : List ℕ) (next : ℕ) → places.string s at ≡ good (a, next) → (next ≡ at + 2 + word s at) × (at + 2 + word s at ≤ length s)
-unfolding places.string
+string-end : (s : List ℕ) (at : ℕ) (a : List ℕ) (next : ℕ) → cells.string s at ≡ good (a, next) → (next ≡ at + 2 + word s at) × (at + 2 + word s at ≤ length s)
+unfolding cells.string
 string-end s at a next e =
-    let (v, q, r) = bind-inv (places.sized s at) _ (a, next) e in
+    let (v, q, r) = bind-inv (cells.sized s at) _ (a, next) e in
     let w = sized-inv s at v q in
     let z : at + 2 + v ≡ next = ap (λ (x : List ℕ × ℕ). x .1) (good-inj r) in
     (omega (arith, w .0), omega (arith, w .0, w .2))
 
 -- every string lies in the image
-offsets-inside : (s : List ℕ) (n at : ℕ) (before : List (List ℕ)) (q : List (List ℕ) × ℕ) → places.many (λ u. places.string s) n at before ≡ good q
+offsets-inside : (s : List ℕ) (n at : ℕ) (before : List (List ℕ)) (q : List (List ℕ) × ℕ) → cells.many (λ u. cells.string s) n at before ≡ good q
     → (k : ℕ) → k < n → getD (offsets s n at) k 0 + 2 + word s (getD (offsets s n at) k 0) ≤ length s
-unfolding places.many offsets
+unfolding cells.many offsets
 offsets-inside s zero at before q e k h = absurd (not-suc-le-zero h)
 offsets-inside s (suc n) at before q e zero h =
-    let ((a, next), f, r) = bind-inv (places.string s at) _ q e in
+    let ((a, next), f, r) = bind-inv (cells.string s at) _ q e in
     string-end s at a next f .1
 offsets-inside s (suc n) at before q e (suc k) h =
-    let ((a, next), f, r) = bind-inv (places.string s at) _ q e in
+    let ((a, next), f, r) = bind-inv (cells.string s at) _ q e in
     let z : next ≡ at + 2 + word s at = string-end s at a next f .0 in
-    offsets-inside s n (at + 2 + word s at) (before ++ (a ∷ [])) q (subst (λ (m : ℕ). places.many (λ u. places.string s) n m (before ++ (a ∷ [])) ≡ good q) z r) k (le-of-suc-le-suc h)
+    offsets-inside s n (at + 2 + word s at) (before ++ (a ∷ [])) q (subst (λ (m : ℕ). cells.many (λ u. cells.string s) n m (before ++ (a ∷ [])) ≡ good q) z r) k (le-of-suc-le-suc h)
 
 offsets-length : (s : List ℕ) (n at : ℕ) → length (offsets s n at) ≡ n
 unfolding offsets

@@ -12,11 +12,12 @@ use Rattle.profile.specs.Image as image
 use Rattle.profile.specs.Image.{accepted, refused}
 use Rattle.profile.specs.Judging as judging
 use Rattle.profile.specs.Judging.{verdict}
-use Rattle.profile.specs.Out.{Out, good, bad}
+use Rattle.cells.specs.Out.{Out, good, bad}
 use Rattle.profile.specs.Places as places
-use Rattle.profile.specs.Places.{word, spaced, row-numbers, member-numbers, criterion-numbers}
-use Rattle.profile.specs.Decoded.{layout, strings, past, profile-in, judged-by}
-use Rattle.profile.proofs.Laws.{good-inj, bad-good}
+use Rattle.cells.specs.Places.{word, past}
+use Rattle.entries.specs.Places.{spaced, row-numbers, member-numbers, criterion-numbers}
+use Rattle.profile.specs.Decoded.{layout, strings, profile-in, judged-by}
+use Rattle.cells.proofs.Laws.{good-inj, bad-good}
 use Rattle.profile.proofs.SameFields.{Same, same-got, same-fault, then-is, then-must, then-done, then-tested, texts-of, u8-same, counted-same}
 use Rattle.profile.proofs.SameSections.{strings-same, rows-same, members-same, all-placed-same, criteria-same}
 

@@ -12,13 +12,15 @@ use Rattle.profile.specs.Image as image
 use Rattle.profile.specs.Image.{Stored, Test, header, description}
 use Rattle.profile.specs.Judging as judging
 use Rattle.profile.specs.Judging.{as-uri, as-method, as-pattern, as-server, as-information, test-of}
-use Rattle.profile.specs.Out.{Out, good, must, _>>=_, _>>_}
-use Rattle.profile.specs.Places as places
-use Rattle.profile.specs.Places.{byte, word, long, whole, u16, limited, counted, exactly, absent, first-of-row, second-of-row, row-start, row-count, trigger, rest, row-numbers, member-numbers, criterion-numbers}
-use Rattle.profile.specs.Decoded.{test-from, row-from, member-from, criterion-with, criterion-from, stored}
-use Rattle.profile.specs.declared.Row.{Row}
-use Rattle.profile.specs.declared.Member.{Member}
-use Rattle.profile.specs.declared.Criterion.{Criterion}
+use Rattle.cells.specs.Out.{Out, good, must, _>>=_, _>>_}
+use Rattle.cells.specs.Places as cells
+use Rattle.entries.specs.Places as places
+use Rattle.cells.specs.Places.{byte, word, long, whole, u16, limited, counted, exactly, absent}
+use Rattle.entries.specs.Places.{first-of-row, second-of-row, row-start, row-count, trigger, rest, row-numbers, member-numbers, criterion-numbers}
+use Rattle.profile.specs.Decoded.{test-from, row-from, member-with, member-from, criterion-with, criterion-from, stored}
+use Rattle.entries.specs.declared.Row.{Row}
+use Rattle.entries.specs.declared.Member.{Member}
+use Rattle.entries.specs.declared.Criterion.{Criterion}
 use Rattle.profile.proofs.SameFields.{Same, same-got, same-fault, Is, is, then-is, then-must, in-parts, then-give, up-to, field-same, then-tested, then-passed, u8-same, u16-same, u32-same, limited-same, counted-same, exactly-same, texts-of, naming-same, naming-or-absent-same, used-uri, used-server, used-method, used-information, pattern-in, used-header, used-description}
 
 -- ---- rows
@@ -102,10 +104,6 @@ row-same strings s before at =
 
 -- ---- memberships
 
--- a membership as Judging has it
-abbrev pub member-with : Member → image.Member
-member-with m = record { row = m .row; group = m .group }
-
 follows-same : (l : List Member) (r g : ℕ) → judging.follows (judging.last (map member-with l)) (record { row = r; group = g }) ≡ places.follows l r g
 follows-same [] r g = refl
 follows-same (a ∷ []) r g = refl
@@ -163,15 +161,15 @@ criterion-same strings s rows l at =
 -- ---- strings
 
 pub string-same : (s : List ℕ) (before : List Stored) (at : ℕ)
-    → Same (Is (stored s at) (at + 2 + word s at) (places.text-at s at, at + 2 + word s at)) (judging.string before s at) (places.string s at)
-unfolding places.string places.sized whole
+    → Same (Is (stored s at) (at + 2 + word s at) (cells.text-at s at, at + 2 + word s at)) (judging.string before s at) (cells.string s at)
+unfolding cells.string cells.sized whole
 string-same s before at =
     in-parts _ _ (counted s at 1024) _ _ (then-is _ _ _ (counted-same s at 1024) (by (leb (at + 2 + word s at) (length s))))
   where
     n : ℕ
     n = word s at
 
-    by : (b : Bool) → Same {B = List ℕ × ℕ} (Is (stored s at) (at + 2 + n) (places.text-at s at, at + 2 + n))
+    by : (b : Bool) → Same {B = List ℕ × ℕ} (Is (stored s at) (at + 2 + n) (cells.text-at s at, at + 2 + n))
         (and-then (and-then (pick b (got (tt {0}) (at + 2)) (fault 2 (length s))) (λ u next. got (take n (drop next s)) (next + n)))
         (λ t next. got (record { start = at + 2; bytes = t }) next))
         ((must b 2 (length s) >> good n) >>= (λ v. good (take v (drop (at + 2) s), at + 2 + v)))

@@ -14,13 +14,15 @@ use Rattle.profile.specs.Image as image
 use Rattle.profile.specs.Image.{Stored}
 use Rattle.profile.specs.Judging as judging
 use Rattle.profile.specs.Judging.{memberships-of, all-rows-have}
-use Rattle.profile.specs.Out.{Out}
-use Rattle.profile.specs.Places as places
-use Rattle.profile.specs.Places.{word, text-at, many, reading-strings, reading-rows, reading-members, reading-criteria, has, placed, spaced, row-numbers, member-numbers, criterion-numbers}
-use Rattle.profile.specs.Decoded.{row-from, member-from, criterion-with, criterion-from, stored, offsets, past}
-use Rattle.profile.specs.declared.Member.{Member}
+use Rattle.cells.specs.Out.{Out}
+use Rattle.cells.specs.Places as cells
+use Rattle.entries.specs.Places as places
+use Rattle.cells.specs.Places.{word, text-at, many, reading-strings, offsets, past}
+use Rattle.entries.specs.Places.{reading-rows, reading-members, reading-criteria, has, placed, spaced, row-numbers, member-numbers, criterion-numbers}
+use Rattle.profile.specs.Decoded.{row-from, member-with, member-from, criterion-with, criterion-from, stored}
+use Rattle.entries.specs.declared.Member.{Member}
 use Rattle.profile.proofs.SameFields.{Same, same-got, Is, is, then-is, must-same, texts-of}
-use Rattle.profile.proofs.SameEntries.{string-same, row-same, member-same, criterion-same, member-with}
+use Rattle.profile.proofs.SameEntries.{string-same, row-same, member-same, criterion-same}
 
 -- ---- entries one after the other
 
@@ -88,7 +90,7 @@ pub strings-same : (s : List ℕ) (n at : ℕ) → Same (Is (map (stored s) (off
 unfolding reading-strings
 strings-same s n at =
     rw (along-offsets (stored s) s n at, along-offsets (text-at s) s n at, end-past s n at, stored-texts s (offsets s n at)) at
-    (entries-same judging.string (λ _. places.string s) s (stored s) (text-at s) (λ k. k + 2 + word s k) (λ l m. Unit {0}) (λ l m k h. string-same s l k) (λ l m k h. tt) n at [] [] tt)
+    (entries-same judging.string (λ _. cells.string s) s (stored s) (text-at s) (λ k. k + 2 + word s k) (λ l m. Unit {0}) (λ l m k h. string-same s l k) (λ l m k h. tt) n at [] [] tt)
 
 -- ---- rows, memberships, criteria
 

@@ -2,35 +2,26 @@
 -- proofs/Same shows that this is what Judging reads.
 use mathlib.Core.Bool.{false}
 use mathlib.Core.Option.{Option, none, some}
-use Prim.Native.Nat.{ℕ, zero, suc, _+_, _*_}
-use mathlib.Core.List.{List, [], _∷_, map}
+use Prim.Native.Nat.{ℕ, _+_, _*_}
+use mathlib.Core.List.{List, [], map}
 use lib.ListN.{getD, take}
 use lib.Dec.{eqb}
 use Rattle.octets.specs.Lists.{pick}
-use Rattle.pattern.specs.Pattern.{Pattern}
-use Rattle.pattern.specs.Reading.{read-pattern}
-use Rattle.profile.specs.Out.{Out, good, bad}
+use Rattle.basic.specs.Pattern.{Pattern}
+use Rattle.basic.specs.Reading.{read-pattern}
+use Rattle.cells.specs.Out.{Out, good, bad}
 use Rattle.profile.specs.Image as image
 use Rattle.profile.specs.Image.{Stored, Test, request-uri, method, header, session-case, description, Judged, accepted, refused}
 use Rattle.profile.specs.Judging.{as-handled}
 use Rattle.profile.specs.Places as places
-use Rattle.profile.specs.Places.{byte, word, text-at, spaced, row-numbers, member-numbers, criterion-numbers}
-use Rattle.profile.specs.declared.Row.{Row}
-use Rattle.profile.specs.declared.Member.{Member}
-use Rattle.profile.specs.declared.Criterion.{Criterion}
+use Rattle.cells.specs.Places.{offsets, past, byte, word, text-at}
+use Rattle.entries.specs.Places.{spaced, row-numbers, member-numbers, criterion-numbers}
+use Rattle.entries.specs.declared.Row.{Row}
+use Rattle.entries.specs.declared.Member.{Member}
+use Rattle.entries.specs.declared.Criterion.{Criterion}
 use Rattle.profile.specs.declared.Layout.{Layout}
 
 -- ---- where things stand
-
--- the places of n strings from a place on: each has its length in two bytes before it
-unfoldable pub offsets : List ℕ → ℕ → ℕ → List ℕ
-offsets s zero at = []
-offsets s (suc n) at = at ∷ offsets s n (at + 2 + word s at)
-
--- the place after them
-unfoldable pub past : List ℕ → ℕ → ℕ → ℕ
-past s zero at = at
-past s (suc n) at = past s n (at + 2 + word s at)
 
 -- the sections' first entries and their numbers of entries
 unfoldable pub layout : List ℕ → Layout
@@ -40,6 +31,7 @@ layout s =
     let members : ℕ = rows + 2 + 7 * word s rows in
     let criteria : ℕ = members + 2 + 4 * word s members in
     record {
+      edition = byte s 0;
       strings = word s 1;
       rows = rows + 2;
       «row_count» = word s rows;
@@ -52,6 +44,7 @@ layout s =
 -- the same from section four's count on, from section three's and from section two's
 abbrev pub laid-criteria : List ℕ → Layout → ℕ → Layout
 laid-criteria s y at = record {
+  edition = byte s 0;
   strings = y .strings;
   rows = y .rows;
   «row_count» = y .«row_count»;
@@ -64,7 +57,7 @@ laid-criteria s y at = record {
 abbrev pub laid-members : List ℕ → ℕ → ℕ → ℕ → ℕ → Layout
 laid-members s strings rows n at =
     laid-criteria s
-    (record { strings = strings; rows = rows; «row_count» = n; members = at + 2; «member_count» = word s at; criteria = 0; «criterion_count» = 0 })
+    (record { edition = 0; strings = strings; rows = rows; «row_count» = n; members = at + 2; «member_count» = word s at; criteria = 0; «criterion_count» = 0 })
     (at + 2 + 4 * word s at)
 
 abbrev pub laid-rows : List ℕ → ℕ → ℕ → Layout
@@ -121,9 +114,13 @@ unfoldable pub row-from : List Stored → List ℕ → ℕ → image.Row
 unfolding test-from
 row-from strs s at = record { place = at; negated = eqb (byte s at) 1; test = test-from strs (row-numbers s at) }
 
+-- a membership from its numbers
+abbrev pub member-with : Member → image.Member
+member-with m = record { row = m .row; group = m .group }
+
 -- the membership at a place
 abbrev pub member-from : List ℕ → ℕ → image.Member
-member-from s at = record { row = member-numbers s at .row; group = member-numbers s at .group }
+member-from s at = member-with (member-numbers s at)
 
 -- a criterion from its numbers
 unfoldable pub criterion-with : List Stored → Criterion → image.Criterion

@@ -1,36 +1,49 @@
--- Worked images: document 01's two, and a fault at each place that can be got wrong. One list, one claim.
+-- Worked images: document 01's two, and a fault at each place that can be got wrong. One list, one claim;
+-- and a profile that may be written.
 use mathlib.Core.Bool.{Bool, true, false, _&&_}
-use Prim.Native.Nat.{ℕ, zero, suc, _/_, _%_}
-use Prim.Native.String.{String}
+use Prim.Native.Nat.{ℕ, zero, suc, _≤_, _<_}
+use native.Mathlib.Omega.{arith}
 use mathlib.Core.List.{List, [], _∷_, _++_}
-use lib.ListN.{length}
 use lib.Dec.{T, eqb}
-use Rattle.octets.specs.Lists.{text, every}
+use Rattle.octets.specs.Lists.{text, every, same}
+use Rattle.basic.specs.Reading.{is-pattern, read-pattern}
 use Rattle.profile.specs.Image.{Judged, accepted, refused}
 use Rattle.profile.specs.Judging.{judge}
+use Rattle.profile.specs.Places.{Profile}
+use Rattle.cells.specs.Places.{usable}
+use Rattle.entries.specs.Places.{has}
+use Rattle.profile.specs.Written as bytes
+use Rattle.profile.specs.Written.{two, string, section, written, Sound}
+use Rattle.entries.specs.declared.Row.{Row}
+use Rattle.entries.specs.declared.Member.{Member}
+use Rattle.entries.specs.declared.Trigger.{Trigger}
+use Rattle.entries.specs.declared.Criterion.{Criterion}
 
 -- ---- writing images
 
--- "Integers are big-endian"
-abbrev pub two : ℕ → List ℕ
-two n = n / 256 % 256 ∷ n % 256 ∷ []
+-- a row's numbers: negated, kind, first, second, no registration set
+abbrev pub row-of : ℕ → ℕ → ℕ → ℕ → Row
+row-of negated kind first second = record { negated = negated; kind = kind; first = first; second = second; set = 0 }
 
--- a string with its length
-abbrev pub string : String → List ℕ
-string s = two (length (text s)) ++ text s
+-- a membership's: row, group
+abbrev pub member-of : ℕ → ℕ → Member
+member-of r g = record { row = r; group = g }
 
--- negated, kind, first, second, no registration set
-abbrev pub row : ℕ → ℕ → ℕ → ℕ → List ℕ
-row negated kind first second = negated ∷ kind ∷ two first ++ two second ++ (0 ∷ [])
+-- a criterion's: priority, part absent, the form, first row, row count, server string, default handling, no information
+abbrev pub criterion-of : ℕ → ℕ → ℕ → ℕ → ℕ → ℕ → Criterion
+criterion-of priority form first count server handling =
+    let trigger : Trigger = record { form = form; first = first; count = count } in
+    record { priority = priority; part = 2; trigger = trigger; server = server; handling = handling; info = 65535 }
 
--- row, group
-abbrev pub membership : ℕ → ℕ → List ℕ
-membership r g = two r ++ two g
+-- their bytes, for images that are cut or wrong
+abbrev row : ℕ → ℕ → ℕ → ℕ → List ℕ
+row negated kind first second = bytes.row (row-of negated kind first second)
 
--- a priority below 256, part absent, the form, first row, row count, server string, default handling, no information
-abbrev pub criterion : ℕ → ℕ → ℕ → ℕ → ℕ → ℕ → List ℕ
-criterion priority form first count server handling =
-    (0 ∷ 0 ∷ 0 ∷ priority ∷ 2 ∷ form ∷ []) ++ two first ++ two count ++ two server ++ (handling ∷ []) ++ two 65535
+abbrev membership : ℕ → ℕ → List ℕ
+membership r g = bytes.membership (member-of r g)
+
+abbrev criterion : ℕ → ℕ → ℕ → ℕ → ℕ → ℕ → List ℕ
+criterion priority form first count server handling = bytes.criterion (criterion-of priority form first count server handling)
 
 -- the empty profile of document 01
 abbrev pub empty-profile : List ℕ
@@ -42,9 +55,16 @@ one-criterion =
     0x01 ∷ 0x00 ∷ 0x01 ∷ 0x00 ∷ 0x05 ∷ 0x73 ∷ 0x69 ∷ 0x70 ∷ 0x3A ∷ 0x61 ∷ 0x00 ∷ 0x00 ∷ 0x00 ∷ 0x00 ∷ 0x00 ∷ 0x01
     ∷ 0x00 ∷ 0x00 ∷ 0x00 ∷ 0x05 ∷ 0x02 ∷ 0x02 ∷ 0x00 ∷ 0x00 ∷ 0x00 ∷ 0x00 ∷ 0x00 ∷ 0x00 ∷ 0x01 ∷ 0xFF ∷ 0xFF ∷ []
 
+-- the profiles of these two
+abbrev nothing : Profile
+nothing = record { strings = []; rows = []; members = []; criteria = [] }
+
+abbrev one : Profile
+one = record { strings = text "sip:a" ∷ []; rows = []; members = []; criteria = criterion-of 5 2 0 0 0 1 ∷ [] }
+
 -- strings `A`, `[` (no pattern), the empty one, `a b` (no token): up to place 16, where the row count stands
 abbrev strings : List ℕ
-strings = 1 ∷ two 4 ++ string "A" ++ string "[" ++ string "" ++ string "a b"
+strings = 1 ∷ section string (text "A" ∷ text "[" ∷ text "" ∷ text "a b" ∷ [])
 
 -- with one row, from 18 on
 abbrev with-row : List ℕ → List ℕ
@@ -74,8 +94,9 @@ zeros (suc n) = 0 ∷ zeros n
 
 -- ---- the list
 
--- accepted; accepted, with this default in every criterion; a fault's number and place
+-- a profile with its bytes; accepted; accepted, with this default in every criterion; a fault's number and place
 pub data Example : Type 0 where
+  writes : Profile → List ℕ → Example
   is-accepted : List ℕ → Example
   has-default : ℕ → List ℕ → Example
   fault-at : ℕ → ℕ → List ℕ → Example
@@ -93,14 +114,17 @@ faulty (accepted p) n place = false
 faulty (refused m at) n place = eqb m n && eqb at place
 
 unfoldable pub right : Example → Bool
-unfolding judge
+unfolding judge written
+right (writes p s) = same (written p) s
 right (is-accepted s) = fine (judge s)
 right (has-default handling s) = all-by (judge s) handling
 right (fault-at n place s) = faulty (judge s) n place
 
 unfoldable pub examples : List Example
 examples =
-    is-accepted empty-profile
+    writes nothing empty-profile
+    ∷ writes one one-criterion
+    ∷ is-accepted empty-profile
     ∷ is-accepted one-criterion
     -- number 1 before all; number 2 at the image's length
     ∷ fault-at 1 0 (zeros 32769)
@@ -127,7 +151,7 @@ examples =
     ∷ fault-at 4 22 (with-row (row 0 1 0 0))
     ∷ fault-at 4 22 (with-row (row 0 2 0 9))
     ∷ fault-at 5 22 (with-row (row 0 2 0 1))
-    ∷ fault-at 4 24 (with-row (0 ∷ 1 ∷ two 0 ++ two 65535 ++ (7 ∷ [])))
+    ∷ fault-at 4 24 (with-row (bytes.row (record { negated = 0; kind = 1; first = 0; second = 65535; set = 7 })))
     -- memberships: the row at the row, the order at the group, one lacking or a ninth after the section
     ∷ fault-at 4 34 (with-members 1 (two 2))
     ∷ fault-at 4 38 (with-members 2 (membership 1 0 ++ membership 0 0))
@@ -161,3 +185,46 @@ examples =
 pub all-right : T (every right examples)
 unfolding right examples
 all-right = tt
+
+-- ---- a profile that may be written: one criterion for a From field
+
+abbrev pub asking-from : Profile
+asking-from = record {
+  strings = text "sip:a" ∷ text "From" ∷ [];
+  rows = row-of 0 2 1 65535 ∷ [];
+  members = member-of 0 0 ∷ [];
+  criteria = criterion-of 5 0 0 1 0 0 ∷ [];
+}
+
+asking-from-placed : (r : ℕ) → r < 1 → (1 ≤ has (asking-from .members) r) × (has (asking-from .members) r ≤ 8)
+unfolding has
+asking-from-placed zero h = (omega arith, omega arith)
+asking-from-placed (suc r) h = absurd (omega arith)
+
+pub asking-from-sound : Sound asking-from
+unfolding written usable is-pattern read-pattern
+asking-from-sound = record {
+  strings-few = omega arith;
+  strings = (omega arith, (omega arith, tt));
+  rows-few = omega arith;
+  rows = (record { negated = omega arith; kind = omega arith; first = tt; second = tt; set = omega arith }, tt);
+  members-few = omega arith;
+  members = (record { row = omega arith; group = omega arith; rises = tt }, tt);
+  placed = asking-from-placed;
+  criteria-few = omega arith;
+  criteria = (
+    record {
+      priority = omega arith;
+      new = tt;
+      part = omega arith;
+      form = omega arith;
+      first = tt;
+      count = tt;
+      server = tt;
+      handling = omega arith;
+      info = tt;
+    },
+    tt,
+  );
+  size = omega arith;
+}

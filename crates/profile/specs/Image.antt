@@ -3,7 +3,7 @@ use mathlib.Core.Bool.{Bool}
 use mathlib.Core.Option.{Option}
 use Prim.Native.Nat.{ℕ}
 use mathlib.Core.List.{List}
-use Rattle.pattern.specs.Pattern.{Pattern}
+use Rattle.basic.specs.Pattern.{Pattern}
 
 -- a string of the table: the place of its first byte in the image, and its bytes
 pub record Stored : Type 0 where

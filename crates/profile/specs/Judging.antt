@@ -8,8 +8,8 @@ use lib.ListN.{length, getElem?}
 use lib.Dec.{leb, ltb, eqb}
 use Rattle.octets.specs.Lists.{pick, only, some-of, empty}
 use Rattle.octets.specs.Bytes.{token}
-use Rattle.pattern.specs.Pattern.{Pattern}
-use Rattle.pattern.specs.Reading.{read-pattern}
+use Rattle.basic.specs.Pattern.{Pattern}
+use Rattle.basic.specs.Reading.{read-pattern}
 use Rattle.profile.specs.Reader.{Got, got, fault, Reader, _>>=_, give, unless, here, integer, field, plain, entries}
 use Rattle.profile.specs.Image.{Stored, Test, request-uri, method, header, session-case, description, Row, Member, Criterion, Profile, Judged, accepted, refused}
 

@@ -4,6 +4,6 @@ pub mod Examples
 pub mod Image
 pub mod Judging
 pub mod Kept
-pub mod Out
 pub mod Places
 pub mod Reader
+pub mod Written

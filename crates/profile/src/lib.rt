@@ -3,78 +3,30 @@ ghost use mathlib.Core.Path.{_≡_};
 ghost use mathlib.Core.List.{[]};
 ghost use Prim.Native.Nat.{_+_, _≤_};
 ghost use lib.ListN.{length};
-ghost use Rattle.profile.specs.Places.{texts, spaced, row-numbers, member-numbers, trigger-numbers, criterion-numbers, judge};
+ghost use Rattle.cells.specs.Places.{texts};
+ghost use Rattle.entries.specs.Places.{spaced, row-numbers, member-numbers};
+ghost use Rattle.profile.specs.Places.{judge};
 ghost use Rattle.profile.specs.Image.{refused};
 ghost use Rattle.profile.specs.Kept.{kept, Judges};
 ghost use Rattle.profile.specs.Decoded.{stored-in, string-of, laid-criteria, laid-members, laid-rows};
-ghost use Rattle.profile.specs.Answers.{field-out, LaidAs, Laid, Table, Known, opening, criteria-on, members-on, rows-on, judged-out, refusal-of};
+ghost use Rattle.cells.specs.Answers.{field-out, Table, Known};
+ghost use Rattle.profile.specs.Answers.{LaidAs, Laid, opening, criteria-on, members-on, rows-on, judged-out, refusal-of};
+use cells::Field;
+use cells::byte_at;
+use cells::count_at;
+use cells::judge_strings;
+use cells::strings;
+use cells::text;
+use cells::wide;
+use entries::all_placed;
+use entries::criteria;
+use entries::members;
+use entries::rows;
 
-mod criteria;
-mod fields;
-mod members;
-mod strings;
-mod trigger_rows;
-
-use crate::criteria::criteria;
-use crate::fields::byte_at;
-use crate::fields::count_at;
-pub use crate::fields::number;
-pub use crate::fields::priority;
-use crate::fields::wide;
-use crate::members::all_placed;
-use crate::members::members;
-use crate::strings::judge_strings;
-use crate::strings::strings;
-use crate::strings::text;
-use crate::trigger_rows::rows;
-
-// What reading a field gives: a number, or the refusal.
-pub enum Field {
-    Is(usize),
-    Refused { number: u8, place: usize },
-}
-
-// What reading a membership gives: its row and its group, or the refusal.
-pub enum Pair {
-    Both(usize, usize),
-    Refused { number: u8, place: usize },
-}
-
-// A trigger row's numbers, as they stand in the image.
-pub struct Row {
-    pub negated: usize,
-    pub kind: usize,
-    pub first: usize,
-    pub second: usize,
-    pub set: usize,
-}
-
-// A membership's numbers.
-pub struct Member {
-    pub row: usize,
-    pub group: usize,
-}
-
-// A criterion's form, first row and row count.
-pub struct Trigger {
-    pub form: usize,
-    pub first: usize,
-    pub count: usize,
-}
-
-// A criterion's numbers.
-pub struct Criterion {
-    pub priority: usize,
-    pub part: usize,
-    pub trigger: Trigger,
-    pub server: usize,
-    pub handling: usize,
-    pub info: usize,
-}
-
-// Where the parts of an accepted image lie: how many strings, and the first byte and the number of the rows, memberships and
-// criteria.
+// An accepted image's edition, and where its parts lie: how many strings, and the first byte and the number of the rows, memberships
+// and criteria.
 pub struct Layout {
+    pub edition: usize,
     pub strings: usize,
     pub rows: usize,
     pub row_count: usize,
@@ -141,7 +93,10 @@ fn from_criteria(s: &[u8], table: &[u16; 1024], uses: &[u8; 1024], y: Layout, at
         return refusal(g);
     };
     if end == s.len() {
+        let first = octets::byte_at(s, 0);
+        let edition = wide(first);
         Judged::Accepted(Layout {
+            edition,
             strings: y.strings,
             rows: y.rows,
             row_count: y.row_count,
@@ -186,6 +141,7 @@ fn from_members(
         return refusal(h);
     };
     let y = Layout {
+        edition: 0,
         strings,
         rows,
         row_count: n,
@@ -233,56 +189,6 @@ fn judge_image(s: &[u8], table: &mut [u16; 1024]) -> Judged
     from_rows(s, table, n, at)
 }
 
-// ---- the parts of an accepted image, by value
-
-pub fn read_row(s: &[u8], at: usize) -> Row
-    requires { ⌜ (at + 7 ≤ length (now s)) × (length (now s) ≤ 32768) ⌝ }
-    ensures { λ r. ⌜ r ≡ row-numbers (now (s .entry)) at ⌝ }
-{
-    Row {
-        negated: wide(s[at]),
-        kind: wide(s[at + 1]),
-        first: number(s, at + 2),
-        second: number(s, at + 4),
-        set: wide(s[at + 6]),
-    }
-}
-
-pub fn read_member(s: &[u8], at: usize) -> Member
-    requires { ⌜ (at + 4 ≤ length (now s)) × (length (now s) ≤ 32768) ⌝ }
-    ensures { λ r. ⌜ r ≡ member-numbers (now (s .entry)) at ⌝ }
-{
-    Member {
-        row: number(s, at),
-        group: number(s, at + 2),
-    }
-}
-
-fn read_trigger(s: &[u8], at: usize) -> Trigger
-    requires { ⌜ (at + 5 ≤ length (now s)) × (length (now s) ≤ 32768) ⌝ }
-    ensures { λ r. ⌜ r ≡ trigger-numbers (now (s .entry)) at ⌝ }
-{
-    Trigger {
-        form: wide(s[at]),
-        first: number(s, at + 1),
-        count: number(s, at + 3),
-    }
-}
-
-pub fn read_criterion(s: &[u8], at: usize) -> Criterion
-    requires { ⌜ (at + 15 ≤ length (now s)) × (length (now s) ≤ 32768) ⌝ }
-    ensures { λ r. ⌜ r ≡ criterion-numbers (now (s .entry)) at ⌝ }
-{
-    Criterion {
-        priority: priority(s, at),
-        part: wide(s[at + 4]),
-        trigger: read_trigger(s, at + 5),
-        server: number(s, at + 10),
-        handling: wide(s[at + 12]),
-        info: number(s, at + 13),
-    }
-}
-
 // ---- what the crates above call
 
 // What is kept of a judged image: the refusal with its place, or 0 and where its sections and strings lie.
@@ -300,6 +206,7 @@ fn refused_with(number: u32, place: u32) -> Judgement
         refusal: number,
         place,
         layout: Layout {
+            edition: 0,
             strings: 0,
             rows: 0,
             row_count: 0,

@@ -8,15 +8,16 @@ use lib.ListN.{length, getElem?}
 use lib.Dec.{T, leb, eqb}
 use Rattle.octets.specs.Lists.{pick, some-of, total, same}
 use Rattle.octets.proofs.Tests.{T-of, test-cases, or-left, or-right}
-use Rattle.pattern.specs.Pattern.{Pattern}
+use Rattle.basic.specs.Pattern.{Pattern}
 use Rattle.pattern.specs.Matching.{name-matches}
 use Rattle.profile.specs.Image.{Test, request-uri, method, header, session-case, description, Row, Member, Criterion, Profile, Judged, accepted, refused}
 use Rattle.profile.specs.Judging.{judge}
-use Rattle.request.specs.Request.{Request, Field, read-request}
-use Rattle.request.specs.Body.{session-lines, request-lines}
+use Rattle.contents.specs.Body.{session-lines}
+use Rattle.request.specs.Request.{Request, Field, read-request, request-lines}
 use Rattle.session.specs.Session.{possible, ready}
 use Rattle.session.specs.declared.Session.{Session}
-use Rattle.rows.specs.Rows.{Given, REGISTER, registration-fits, content-fits, field-fits, line-fits, test-fits, row-fits, content-trials, field-trials, line-trials, test-trials, row-trials}
+use Rattle.rows.specs.Rows.{REGISTER, registration-fits, content-fits, field-fits, line-fits, test-fits, row-fits, content-trials, field-trials, line-trials, test-trials, row-trials}
+use Rattle.rows.specs.declared.Given.{Given}
 use Rattle.fitting.specs.Fitting.{memberships, fits-at, by-form, trigger-fits, criterion-fits, part-fits, trials-at, trials-from, criterion-trials}
 use Rattle.route.specs.Advance.{refuse, walk, walk-with, in-session, advance-read, advance-judged, advance}
 use Rattle.listing.specs.Listing.{Listing, refuse-list, fill, fill-with, list-read, list-judged, listing}

@@ -7,8 +7,9 @@ use Rattle.octets.specs.Lists.{text}
 use Rattle.pattern.specs.Matching.{name-matches}
 use Rattle.profile.specs.Decoded.{profile-in}
 use Rattle.profile.specs.Judging.{judge}
+use Rattle.profile.specs.Written.{written}
 use Rattle.request.specs.Request.{Field, read-request}
-use Rattle.rows.specs.Tried.{request-of}
+use Rattle.request.specs.Places.{request-of}
 use Rattle.session.specs.Session.{fresh}
 use Rattle.route.specs.Advance.{advance}
 use Rattle.promises.specs.Common.{from-joe}
@@ -22,7 +23,7 @@ call-id value = record { name = text "Call-ID"; values = text value ∷ [] }
 
 -- another Call-ID and another body, of which no row asks
 pub unasked-agree : Agree (from-joe 0) (invite "joe" "1" "m=a") (invite "joe" "2" "m=b")
-unfolding invite call-id judge profile-in read-request request-of start-of name-matches
+unfolding invite call-id written judge profile-in read-request request-of start-of name-matches
 unasked-agree = record {
   profile = profile-in (from-joe 0);
   accepts = refl;
@@ -37,5 +38,5 @@ unasked-agree = record {
 
 -- another From
 pub asked-differ : (advance (fresh 0) (from-joe 0) (invite "joe" "1" "m=a") .outcome ≡ 1) × (advance (fresh 0) (from-joe 0) (invite "ann" "1" "m=a") .outcome ≡ 2)
-unfolding invite advance
+unfolding invite written advance
 asked-differ = (refl, refl)

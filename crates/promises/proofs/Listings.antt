@@ -12,7 +12,7 @@ use Rattle.octets.proofs.Kept.{only-sound, only-complete}
 use Rattle.profile.specs.Image.{Profile, Judged}
 use Rattle.profile.proofs.Accepted.{accepted-sound}
 use Rattle.request.specs.Request.{Request}
-use Rattle.rows.specs.Rows.{Given}
+use Rattle.rows.specs.declared.Given.{Given}
 use Rattle.fitting.specs.Fitting.{criterion-fits, criterion-trials}
 use Rattle.order.specs.Order.{Numbered, numbered, rising}
 use Rattle.listing.specs.Listing.{Listing, numbers, listed, refuse-list, filled, fill, fill-with, list-read, list-judged, listing}

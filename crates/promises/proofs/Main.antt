@@ -9,7 +9,7 @@ use lib.ListN.{length, getElem?}
 use lib.Dec.{T, eqb}
 use mathlib.Core.Option.{none, some}
 use Rattle.octets.specs.Lists.{pick, every}
-use Rattle.pattern.specs.Pattern.{Atom, Pattern, Matches}
+use Rattle.basic.specs.Pattern.{Atom, Pattern, Matches}
 use Rattle.pattern.specs.Matching.{matches}
 use Rattle.pattern.proofs.Meaning.{matches-iff}
 use Rattle.profile.specs.Image.{Stored, Criterion, Profile, accepted, refused}
@@ -24,7 +24,7 @@ use Rattle.session.specs.Session.{possible, ready, waiting, released, ended, fr
 use Rattle.session.specs.declared.Session.{Session}
 use Rattle.session.specs.declared.Opened.{Opened}
 use Rattle.session.specs.declared.Reported.{Reported}
-use Rattle.rows.specs.Rows.{Given}
+use Rattle.rows.specs.declared.Given.{Given}
 use Rattle.order.specs.Order.{Numbered}
 use Rattle.route.specs.Advance.{advance, Advances}
 use Rattle.route.specs.declared.Advanced.{Advanced}

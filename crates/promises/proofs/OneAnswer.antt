@@ -14,7 +14,7 @@ use Rattle.session.specs.declared.Reported.{Reported}
 use Rattle.request.specs.Places.{Read}
 use Rattle.request.specs.Request.{Request}
 use Rattle.request.specs.declared.Reading.{Reading}
-use Rattle.rows.specs.Rows.{Given}
+use Rattle.rows.specs.declared.Given.{Given}
 use Rattle.rows.specs.Tried.{Tried}
 use Rattle.rows.specs.declared.Verdict.{Verdict}
 use Rattle.fitting.specs.Rowwise.{Considered}

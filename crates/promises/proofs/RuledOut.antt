@@ -2,15 +2,17 @@
 use mathlib.Core.Path.{_≡_, refl, sym, ap, _∙_}
 use Prim.Native.Nat.{ℕ}
 use native.Mathlib.Omega.{arith}
-use mathlib.Core.List.{List, [], _∷_, _++_}
+use mathlib.Core.List.{List, [], _∷_}
 use Rattle.octets.specs.Lists.{text}
-use Rattle.profile.specs.Examples.{two, string, row, membership, criterion, one-criterion}
+use Rattle.profile.specs.Examples.{row-of, member-of, criterion-of, one-criterion, asking-from}
+use Rattle.profile.specs.Written.{written}
 use Rattle.session.specs.Session.{fresh, report-session}
 use Rattle.session.specs.declared.Session.{Session}
-use Rattle.rows.specs.Rows.{Given}
+use Rattle.rows.specs.declared.Given.{Given}
 use Rattle.route.specs.Advance.{advance, Advances}
 use Rattle.listing.specs.Listing.{Listing, listing, Lists}
 use Rattle.route.specs.declared.Advanced.{Advanced}
+use Rattle.promises.specs.Common.{pair}
 
 -- ---- libraries
 
@@ -41,17 +43,20 @@ register = text "REGISTER sip:b SIP/2.0\r\n\r\n"
 
 -- criterion 0 of priority 5 with no trigger, and criterion 1 of priority 3 for Method REGISTER
 two-criteria : List ℕ
-two-criteria =
-    1 ∷ two 2 ++ string "sip:a" ++ string "REGISTER" ++ two 1 ++ row 0 1 1 65535 ++ two 1 ++ membership 0 0
-    ++ two 2 ++ criterion 5 2 0 0 0 1 ++ criterion 3 0 0 1 0 0
+two-criteria = written (record {
+  strings = text "sip:a" ∷ text "REGISTER" ∷ [];
+  rows = row-of 0 1 1 65535 ∷ [];
+  members = member-of 0 0 ∷ [];
+  criteria = criterion-of 5 2 0 0 0 1 ∷ criterion-of 3 0 0 1 0 0 ∷ [];
+})
 
 -- two criteria with no trigger
 twice : List ℕ
-twice = 1 ∷ two 1 ++ string "sip:a" ++ two 0 ++ two 0 ++ two 2 ++ criterion 5 2 0 0 0 0 ++ criterion 7 2 0 0 0 0
+twice = pair 5 7
 
 -- one criterion for a From field
 for-from : List ℕ
-for-from = 1 ∷ two 2 ++ string "sip:a" ++ string "From" ++ two 1 ++ row 0 2 1 65535 ++ two 1 ++ membership 0 0 ++ two 1 ++ criterion 5 0 0 1 0 0
+for-from = written asking-from
 
 -- ---- what the definitions say of them
 
@@ -64,22 +69,22 @@ returned : Session
 returned = report-session (advance (fresh 0) twice invite .session) 0 .session
 
 forwards-again : advance returned twice invite .outcome ≡ 1
-unfolding advance report-session invite returned twice
+unfolding advance report-session invite returned twice written
 forwards-again = refl
 
 no-trials : advance (fresh 0) for-from invite .trials ≡ 0
-unfolding advance invite for-from
+unfolding advance invite for-from written
 no-trials = refl
 
 one-trial : advance (fresh 0) for-from invite-from .trials ≡ 1
-unfolding advance invite-from for-from
+unfolding advance invite-from for-from written
 one-trial = refl
 
 given : Given
 given = record { case = 0; registration = 0 }
 
 lists-two : listing given two-criteria register (7 ∷ 8 ∷ 9 ∷ []) .places ≡ 1 ∷ 0 ∷ 9 ∷ []
-unfolding listing two-criteria register given
+unfolding listing two-criteria register given written
 lists-two = refl
 
 -- ---- the wrong ones
@@ -104,7 +109,7 @@ not-always-route lib h m =
 
 -- one that is "right at its first advance and idle after": it refuses or routes every session that forwarded before
 pub not-idle : (lib : Library) → ((x : Session) (image r : List ℕ) → x .forwarded ≡ 1 → lib x image r .outcome ≡ 1 → ⊥) → Meets lib → ⊥
-unfolding outcome-of advance report-session invite returned twice
+unfolding outcome-of advance report-session invite returned twice written
 not-idle lib h m = h returned twice invite refl (ap outcome-of (m returned twice invite .answer) ∙ forwards-again)
 
 -- one whose trials are made up: the same whatever the request

@@ -8,7 +8,7 @@ use lib.ListN.{length}
 use lib.Dec.{leb}
 use Rattle.octets.specs.Lists.{every}
 use Rattle.octets.specs.Option.{_>>=_, holds}
-use Rattle.request.specs.Cutting.{Cut, first-cut}
+use Rattle.cuts.specs.Cutting.{Cut, first-cut}
 use Rattle.request.specs.Request.{Request, Field, Start, empty-line, head-lines, head-byte, paired, head, start-line, continues, all-fields, whole-fields, read-request}
 use Rattle.promises.specs.Agreement.{first, line-of, start-of}
 

@@ -9,7 +9,7 @@ use Rattle.octets.specs.Lists.{some-of}
 use Rattle.pattern.specs.Matching.{name-matches}
 use Rattle.profile.specs.Image.{Test, request-uri, method, header, session-case, description, Row, Profile, accepted, refused}
 use Rattle.profile.specs.Judging.{judge}
-use Rattle.request.specs.Cutting.{Cut, first-cut}
+use Rattle.cuts.specs.Cutting.{Cut, first-cut}
 use Rattle.request.specs.Request.{Request, Field, empty-line, head-lines, read-request}
 
 -- ---- the profile's part

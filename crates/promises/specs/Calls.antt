@@ -10,7 +10,7 @@ use Rattle.session.specs.Session.{open-session, report-session}
 use Rattle.session.specs.declared.Session.{Session}
 use Rattle.session.specs.declared.Opened.{Opened}
 use Rattle.session.specs.declared.Reported.{Reported}
-use Rattle.rows.specs.Rows.{Given}
+use Rattle.rows.specs.declared.Given.{Given}
 use Rattle.route.specs.Advance.{advance}
 use Rattle.listing.specs.Listing.{Listing, listing}
 use Rattle.route.specs.declared.Advanced.{Advanced}

@@ -2,10 +2,14 @@
 use mathlib.Core.Bool.{Bool, _&&_}
 use Prim.Native.Nat.{ℕ}
 use Prim.Native.String.{String}
-use mathlib.Core.List.{List, [], _∷_, _++_}
+use mathlib.Core.List.{List, [], _∷_}
+use lib.ListN.{length}
 use lib.Dec.{T, eqb}
 use Rattle.octets.specs.Lists.{text, every}
-use Rattle.profile.specs.Examples.{two, string, row, membership, criterion}
+use Rattle.profile.specs.Examples.{row-of, member-of, criterion-of}
+use Rattle.profile.specs.Written.{written}
+use Rattle.entries.specs.declared.Row.{Row}
+use Rattle.entries.specs.declared.Member.{Member}
 use Rattle.session.specs.Session.{fresh, report-session}
 use Rattle.session.specs.declared.Session.{Session}
 use Rattle.route.specs.Advance.{advance}
@@ -13,30 +17,39 @@ use Rattle.route.specs.declared.Advanced.{Advanced}
 
 -- ---- the images
 
--- one criterion, priority 7, over rows whose strings are From, joe, To; the server stands last
-abbrev of-rows : ℕ → ℕ → List ℕ → List ℕ → List ℕ
-of-rows form count rows members =
-    1 ∷ two 4 ++ string "From" ++ string "joe" ++ string "To" ++ string "sip:a"
-    ++ (two count ++ rows) ++ (two count ++ members)
-    ++ two 1 ++ criterion 7 form 0 count 3 0
+-- one DNF criterion, priority 7, over rows whose strings are From, joe, To; the server stands last
+abbrev of-rows : List Row → List Member → List ℕ
+of-rows rows members = written (record {
+  strings = text "From" ∷ text "joe" ∷ text "To" ∷ text "sip:a" ∷ [];
+  rows = rows;
+  members = members;
+  criteria = criterion-of 7 0 0 (length rows) 3 0 ∷ [];
+})
 
 -- From with Content joe, as it is and negated; and DNF with From negated and To in one group
 abbrev pub from-joe : ℕ → List ℕ
-from-joe negated = of-rows 0 1 (row negated 2 0 1) (membership 0 0)
+from-joe negated = of-rows (row-of negated 2 0 1 ∷ []) (member-of 0 0 ∷ [])
 
 abbrev from-not-to : List ℕ
-from-not-to = of-rows 0 2 (row 1 2 0 65535 ++ row 0 2 2 65535) (membership 0 0 ++ membership 1 0)
+from-not-to = of-rows (row-of 1 2 0 65535 ∷ row-of 0 2 2 65535 ∷ []) (member-of 0 0 ∷ member-of 1 0 ∷ [])
 
 -- two criteria with no trigger, of these priorities
-abbrev pair : ℕ → ℕ → List ℕ
-pair p r = 1 ∷ two 1 ++ string "sip:a" ++ two 0 ++ two 0 ++ two 2 ++ criterion p 2 0 0 0 0 ++ criterion r 2 0 0 0 0
+abbrev pub pair : ℕ → ℕ → List ℕ
+pair p r = written (record {
+  strings = text "sip:a" ∷ [];
+  rows = [];
+  members = [];
+  criteria = criterion-of p 2 0 0 0 0 ∷ criterion-of r 2 0 0 0 0 ∷ [];
+})
 
 -- a criterion with no trigger, then one for From with Content joe
 abbrev first-then-joe : List ℕ
-first-then-joe =
-    1 ∷ two 3 ++ string "From" ++ string "joe" ++ string "sip:a"
-    ++ (two 1 ++ row 0 2 0 1) ++ (two 1 ++ membership 0 0)
-    ++ two 2 ++ criterion 1 2 0 0 2 0 ++ criterion 2 0 0 1 2 0
+first-then-joe = written (record {
+  strings = text "From" ∷ text "joe" ∷ text "sip:a" ∷ [];
+  rows = row-of 0 2 0 1 ∷ [];
+  members = member-of 0 0 ∷ [];
+  criteria = criterion-of 1 2 0 0 2 0 ∷ criterion-of 2 0 0 1 2 0 ∷ [];
+})
 
 -- ---- the list
 
@@ -81,5 +94,5 @@ common =
 
 -- every example is right
 pub all-right : T (every right common)
-unfolding right common
+unfolding right common written
 all-right = tt

@@ -3,40 +3,52 @@ use mathlib.Core.Bool.{Bool, true, false}
 use mathlib.Core.Option.{Option, none, some}
 use Prim.Native.Nat.{ℕ}
 use Prim.Native.String.{String}
-use mathlib.Core.List.{List, [], _∷_, _++_}
+use mathlib.Core.List.{List, [], _∷_}
 use lib.Dec.{T, eqb}
 use Rattle.octets.specs.Lists.{text, every, agree}
-use Rattle.pattern.specs.Pattern.{Pattern}
-use Rattle.pattern.specs.Reading.{read-pattern}
+use Rattle.basic.specs.Pattern.{Pattern}
+use Rattle.basic.specs.Reading.{read-pattern}
 use Rattle.pattern.specs.Matching.{written-matches}
-use Rattle.profile.specs.Examples.{two, string, row, membership}
+use Rattle.profile.specs.Examples.{row-of, member-of, criterion-of}
+use Rattle.profile.specs.Written.{written}
+use Rattle.entries.specs.declared.Row.{Row}
+use Rattle.entries.specs.declared.Criterion.{Criterion}
 use Rattle.session.specs.Session.{fresh}
 use Rattle.route.specs.Advance.{advance}
 
 -- ---- the images of source document 000's trigger
 
-abbrev strings : List ℕ
-strings = two 6 ++ string "INVITE" ++ string "MESSAGE" ++ string "SUBSCRIBE" ++ string "From" ++ string "joe" ++ string "sip:AS1@homedomain.com"
+abbrev strings : List (List ℕ)
+strings = text "INVITE" ∷ text "MESSAGE" ∷ text "SUBSCRIBE" ∷ text "From" ∷ text "joe" ∷ text "sip:AS1@homedomain.com" ∷ []
 
--- priority 0, part absent, the form, rows from 0, server string 5, handling 0, no information
-abbrev criteria : ℕ → ℕ → List ℕ
-criteria form count = two 1 ++ (0 ∷ 0 ∷ 0 ∷ 0 ∷ 2 ∷ form ∷ []) ++ two 0 ++ two count ++ two 5 ++ (0 ∷ []) ++ two 65535
+-- rows for INVITE, MESSAGE, SUBSCRIBE, and From not joe
+abbrev method : ℕ → Row
+method i = row-of 0 1 i 65535
+
+abbrev not-joe : Row
+not-joe = row-of 1 2 3 4
+
+-- priority 0, the form, all rows
+abbrev criteria : ℕ → ℕ → List Criterion
+criteria form count = criterion-of 0 form 0 count 5 0 ∷ []
 
 -- the four rows of the DNF, in groups 0, 1, 2, 2
 abbrev pub in-dnf : List ℕ
-in-dnf =
-    1 ∷ strings
-    ++ (two 4 ++ row 0 1 0 65535 ++ row 0 1 1 65535 ++ row 0 1 2 65535 ++ row 1 2 3 4)
-    ++ (two 4 ++ membership 0 0 ++ membership 1 1 ++ membership 2 2 ++ membership 3 2)
-    ++ criteria 0 4
+in-dnf = written (record {
+  strings = strings;
+  rows = method 0 ∷ method 1 ∷ method 2 ∷ not-joe ∷ [];
+  members = member-of 0 0 ∷ member-of 1 1 ∷ member-of 2 2 ∷ member-of 3 2 ∷ [];
+  criteria = criteria 0 4;
+})
 
 -- the six rows of the CNF, as 000 writes them, in groups 0, 0, 0, 1, 1, 1
 abbrev pub in-cnf : List ℕ
-in-cnf =
-    1 ∷ strings
-    ++ (two 6 ++ row 0 1 0 65535 ++ row 0 1 1 65535 ++ row 0 1 2 65535 ++ row 0 1 0 65535 ++ row 0 1 1 65535 ++ row 1 2 3 4)
-    ++ (two 6 ++ membership 0 0 ++ membership 1 0 ++ membership 2 0 ++ membership 3 1 ++ membership 4 1 ++ membership 5 1)
-    ++ criteria 1 6
+in-cnf = written (record {
+  strings = strings;
+  rows = method 0 ∷ method 1 ∷ method 2 ∷ method 0 ∷ method 1 ∷ not-joe ∷ [];
+  members = member-of 0 0 ∷ member-of 1 0 ∷ member-of 2 0 ∷ member-of 3 1 ∷ member-of 4 1 ∷ member-of 5 1 ∷ [];
+  criteria = criteria 1 6;
+})
 
 -- ---- the list
 
@@ -86,5 +98,5 @@ marked =
 
 -- every example is right
 pub all-right : T (every right marked)
-unfolding right marked
+unfolding right marked written
 all-right = tt

@@ -13,7 +13,8 @@ use Rattle.lookups.specs.declared.Lookup.{Lookup}
 use Rattle.request.specs.Request.{Request, read-request}
 use Rattle.session.specs.Session.{possible, ready, waiting}
 use Rattle.session.specs.declared.Session.{Session}
-use Rattle.rows.specs.Rows.{Given, REGISTER}
+use Rattle.rows.specs.Rows.{REGISTER}
+use Rattle.rows.specs.declared.Given.{Given}
 use Rattle.fitting.specs.Fitting.{criterion-fits}
 use Rattle.listing.specs.Listing.{Listing, listed}
 use Rattle.route.specs.declared.Advanced.{Advanced}

@@ -10,9 +10,10 @@ use Rattle.octets.specs.Lists.{pick, same, total}
 use Rattle.profile.specs.Image.{Profile, accepted}
 use Rattle.profile.specs.Judging.{judge}
 use Rattle.request.specs.Request.{Request, read-request}
-use Rattle.session.specs.Session.{possible, ready, waiting, finished, with-state, report-session}
+use Rattle.session.specs.Session.{possible, ready, finished, with-state, report-session, forwarded-to}
 use Rattle.session.specs.declared.Session.{Session}
-use Rattle.rows.specs.Rows.{Given, REGISTER}
+use Rattle.rows.specs.Rows.{REGISTER}
+use Rattle.rows.specs.declared.Given.{Given}
 use Rattle.fitting.specs.Fitting.{criterion-fits, criterion-trials}
 use Rattle.order.specs.Order.{Numbered, numbered, priority, above-last, candidates, up-to, Rises}
 use Rattle.route.specs.Advance.{in-session, advance}
@@ -50,7 +51,7 @@ pub record Forward (x : Session) (p : Profile) (q : Request) (a : Advanced) : Ty
   pub outcome : a .outcome ≡ 1
   pub number : a .number ≡ chosen-one .number
   pub its-priority : a .priority ≡ priority chosen-one
-  pub session : a .session ≡ record { case = x .case; state = waiting; forwarded = 1; last = priority chosen-one; handling = chosen-one .criterion .handling }
+  pub session : a .session ≡ forwarded-to x (priority chosen-one) (chosen-one .criterion .handling)
   pub counts : Counts x p q (up-to (some chosen-one) (candidates x (p .criteria))) a
 
 -- there is none: of the session only the state changes

@@ -13,18 +13,20 @@ use lib.Seq.{length-take-le, take-take}
 use Rattle.octets.specs.Bytes.{white}
 use Rattle.octets.specs.Lists.{every}
 use Rattle.octets.proofs.Tests.{test-cases, T-of, right}
-use Rattle.request.specs.Cutting.{begins}
-use Rattle.request.specs.Places.{head-of, part, first-line, later-lines, field-lines, fields-start}
+use Rattle.cuts.specs.Cutting.{begins, first-line, later-lines}
+use Rattle.cuts.specs.Parts.{part}
+use Rattle.cuts.specs.Searching.{first}
+use Rattle.cuts.proofs.Parts.{part-front, length-part}
+use Rattle.cuts.proofs.Search.{first-le, first-holds, begins-long}
+use Rattle.request.specs.Places.{head-of, field-lines, fields-start}
 use Rattle.request.specs.Request.{Field, Request, Start, head-byte, paired, head-lines, whole-fields, start-line, all-fields, head, empty-line, read-request, bytes-right, parts-right}
-use Rattle.request.specs.Searching.{first}
 use Rattle.request.specs.Steps.{start-places, lines-from, judged}
 use Rattle.request.specs.declared.Judged.{Judged}
 use Rattle.request.specs.declared.Judged.the-variants.{Refused, Accepted}
 use Rattle.request.specs.declared.start_lines.StartLine.the-variants.{Bad}
 use Rattle.request.proofs.Head.{Pairs, pairs, pairs-paired}
 use Rattle.request.proofs.Judging.{Starts, starts, cr, built, head-built, judge-long, judge-endless, judge-bytes, read-by-test, head-is-front}
-use Rattle.request.proofs.Parts.{part-front, length-part}
-use Rattle.request.proofs.Search.{first-le, first-holds, begins-long, head-end}
+use Rattle.request.proofs.Ends.{head-end}
 use Rattle.request.proofs.StartParts.{started, start-no-sp, start-one-sp, start-wrong, start-whole}
 
 -- ---- the start line

@@ -2,14 +2,16 @@
 use mathlib.Core.Option.{Option, none, some, Option·some-injective}
 use mathlib.Core.Path.{_≡_, refl, sym, ap, _∙_, subst}
 use mathlib.Core.List.{List, [], _∷_, _++_}
-use Prim.Native.Nat.{ℕ, suc, _+_, _-_, _≤_}
+use Prim.Native.Nat.{ℕ, suc, _+_, _-_, _≤_, _<_}
 use native.Mathlib.Nat.{sub-zero}
 use native.Mathlib.Omega.{arith}
 use lib.ListN.{length, take, drop}
 use lib.Seq.{length-take-le}
 use Rattle.octets.specs.Option.{_>>=_}
 use Rattle.octets.proofs.Tests.{T-of}
-use Rattle.request.specs.Places.{head-of, field-lines, fields-start, line-starts, line-colons, reading, starts-of, colons-of, over, Room, Read}
+use Rattle.cuts.specs.Parts.{over}
+use Rattle.cuts.proofs.Parts.{length-part}
+use Rattle.request.specs.Places.{head-of, field-lines, fields-start, line-starts, line-colons, reading, starts-of, colons-of, Room, Read}
 use Rattle.request.specs.Request.{Field, Request, field, all-fields, read-request}
 use Rattle.request.specs.Steps.{is-some, lines-from, judged, Fillable, Filled}
 use Rattle.request.specs.declared.Judged.{Judged}
@@ -17,7 +19,6 @@ use Rattle.request.specs.declared.Judged.the-variants.{Refused, Accepted
 use Rattle.request.specs.declared.Reading.the-variants.{Unreadable, Readable}
 use Rattle.request.proofs.Accepted.{Accepts, accepts}
 use Rattle.request.proofs.Judging.{all-fields-some}
-use Rattle.request.proofs.Parts.{length-part}
 
 -- ---- as many fields as lines
 
@@ -66,6 +67,9 @@ module _ (s starts colons : List ℕ) (j : Judged) (ej : j ≡ judged (head-of s
     pub head-inside : e ≤ length s
     head-inside = omega (arith, a .body-inside)
 
+    pub lines-room : e + 4 < 18446744073709551616
+    lines-room = omega (arith, a .body-inside, a .short)
+
     front-is : take (e - 0) (drop 0 s) ≡ take e s
     front-is = ap (λ (k : ℕ). take k s) (sub-zero e)
 
@@ -83,7 +87,7 @@ module _ (s starts colons : List ℕ) (j : Judged) (ej : j ≡ judged (head-of s
     })
 
     pub read-accepted : (starts′ colons′ : List ℕ) (n : ℕ) → Filled (take (e - 0) (drop 0 s)) f starts colons starts′ colons′ n
-        → Read s starts colons starts′ colons′ (Readable m u e n)
+        → Read s starts colons starts′ colons′ (Readable (record { method = m; uri = u; head = e; fields = n; lines = e + 4 }))
     read-accepted starts′ colons′ n filled =
         let k : Filled (take e s) f starts colons starts′ colons′ n = subst (λ (h : List ℕ). Filled h f starts colons starts′ colons′ n) front-is filled in
         let ls = lines-from (take e s) f in
@@ -95,7 +99,7 @@ module _ (s starts colons : List ℕ) (j : Judged) (ej : j ≡ judged (head-of s
         let lines : field-lines (head-of s) ≡ ls = ap field-lines (a .head-is) ∙ a .lines-are in
         let start : fields-start (head-of s) ≡ f = ap fields-start (a .head-is) ∙ sym (a .start-is) in
         record {
-          answer = sym (ap (reading (head-of s)) (a .read) ∙ (λ i. Readable (m-is i) (u-is i) (h-is i) (n-is i)));
+          answer = sym (ap (reading (head-of s)) (a .read) ∙ (λ i. Readable (record { method = m-is i; uri = u-is i; head = h-is i; fields = n-is i; lines = h-is i + 4 })));
           starts-are =
               k .starts-are ∙ ap (λ (i : ℕ). line-starts f ls ++ drop i starts) (k .count ∙ sym (starts-length f ls))
               ∙ sym (ap (λ (o : Option Request). over (starts-of (head-of s) o) starts) (a .read) ∙ (λ i. over (line-starts (start i) (lines i)) starts));

@@ -11,19 +11,21 @@ use lib.Dec.{T}
 use lib.Seq.{length-take-le}
 use Rattle.octets.specs.Lists.{total}
 use Rattle.octets.proofs.Options.{Ok}
-use Rattle.request.specs.Places.{part, colon-in, head-of}
-use Rattle.request.specs.Request.{Request, Field, paired, name-as-matched, field, all-fields, read-request}
-use Rattle.request.specs.Searching.{first, line-break}
-use Rattle.request.specs.Steps.{lines-from, judged}
-use Rattle.request.specs.Values.{trim-right, reduced}
+use Rattle.cuts.specs.Parts.{part}
+use Rattle.cuts.specs.Searching.{first}
+use Rattle.cuts.specs.Trimming.{trim-right}
+use Rattle.cuts.proofs.Parts.{length-part}
+use Rattle.cuts.proofs.Trims.{trim-le}
+use Rattle.contents.specs.Values.{reduced, name-as-matched}
+use Rattle.contents.proofs.Norm.{reduced-le}
+use Rattle.contents.proofs.Small.{values-length}
+use Rattle.request.specs.Places.{colon-in, head-of}
+use Rattle.request.specs.Request.{Request, Field, paired, field, all-fields, read-request}
+use Rattle.request.specs.Steps.{line-break, lines-from, judged}
 use Rattle.request.proofs.Accepted.{Accepts, accepts}
 use Rattle.request.proofs.Fields.{end-order, end-inside}
 use Rattle.request.proofs.Lines.{line-here, line-next, line-past}
-use Rattle.request.proofs.Norm.{reduced-le}
 use Rattle.request.proofs.Nth.{cons, field-is, colon-in-line, name-token, token-long}
-use Rattle.request.proofs.Parts.{length-part}
-use Rattle.request.proofs.Small.{values-length}
-use Rattle.request.proofs.Trims.{trim-le}
 
 -- ---- fields with their values
 

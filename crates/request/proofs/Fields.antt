@@ -13,16 +13,18 @@ use borrow.Author.Tests.{not-true, not-false}
 use Rattle.octets.specs.Bytes.{token}
 use Rattle.octets.specs.Lists.{every, empty}
 use Rattle.octets.specs.Option.{_>>=_, holds}
-use Rattle.request.specs.Cutting.{Cut, begins}
-use Rattle.request.specs.Places.{part, line-starts, colon-in, line-colons}
-use Rattle.request.specs.Request.{Field, paired, name-as-matched, field}
-use Rattle.request.specs.Searching.{first, line-break, word-byte}
-use Rattle.request.specs.Steps.{is-some, is-field, lines-from}
-use Rattle.request.specs.Values.{trim-right, reduced, values-of}
+use Rattle.cuts.specs.Cutting.{Cut, begins}
+use Rattle.cuts.specs.Parts.{part}
+use Rattle.cuts.specs.Searching.{first}
+use Rattle.cuts.specs.Trimming.{trim-right}
+use Rattle.cuts.proofs.Parts.{length-part}
+use Rattle.cuts.proofs.Search.{first-le, cut-found, cut-missing}
+use Rattle.cuts.proofs.Trims.{trim-front, trim-le}
+use Rattle.contents.specs.Values.{reduced, name-as-matched, values-of}
+use Rattle.request.specs.Places.{line-starts, colon-in, line-colons}
+use Rattle.request.specs.Request.{Field, paired, field}
+use Rattle.request.specs.Steps.{line-break, word-byte, is-some, is-field, lines-from}
 use Rattle.request.proofs.Lines.{line-here, line-next, line-past}
-use Rattle.request.proofs.Parts.{length-part}
-use Rattle.request.proofs.Search.{first-le, cut-found, cut-missing}
-use Rattle.request.proofs.Trims.{trim-front, trim-le}
 
 -- the field whose colon stands at k
 abbrev pub field-at : List ℕ → ℕ → Field

@@ -1,35 +1,22 @@
 -- The head: its bytes one after the other, and its lines by place.
-use mathlib.Core.Bool.{Bool, true, false, not, _&&_, and-true, and-false}
+use mathlib.Core.Bool.{Bool, true, false, not, _||_, and-false, true≢false}
 use mathlib.Core.Path.{_≡_, refl, sym, ap, _∙_, subst}
 use mathlib.Core.List.{List, [], _∷_}
-use Prim.Native.Nat.{ℕ, suc, _+_, _≤_, _<_, zero-le, suc-le-suc}
-use native.Mathlib.Nat.{zero-add}
-use native.Mathlib.Omega.{arith}
+use Prim.Native.Nat.{ℕ, suc, _+_, _≤_, _<_, zero-le}
+use native.Mathlib.Nat.{add-zero}
 use native.Mathlib.Decide.{decLe}
-use lib.ListN.{length, getD, drop, length-drop, drop-of-length-le}
-use lib.Dec.{T, eqb, leb·suc-suc}
-use lib.Seq.{drop-cons, drop-drop}
-use borrow.Author.Tests.{ne-eqb, lt-ltb, le-leb, lt-leb, not-true, eqb-true, eqb-false}
-use Rattle.octets.specs.Lists.{pick}
-use Rattle.octets.proofs.Tests.{by-test, both, left, right, T-of, is-true, is-false, test-cases}
-use Rattle.request.specs.Cutting.{begins, first-cut}
-use Rattle.request.specs.Places.{head-of}
-use Rattle.request.specs.Request.{head-byte, paired, empty-line}
-use Rattle.request.specs.Steps.{control-size, ends-right, head-place}
-use Rattle.request.specs.declared.head_bytes.HeadPlace.the-variants.{Wrong, Ends}
-use Rattle.request.proofs.Search.{head-byte-on, head-none}
+use native.Mathlib.Numerals.{add-one, add-one-le}
+use native.Mathlib.Omega.{arith}
+use lib.ListN.{length, getD, drop, drop-of-length-le, List·getD-eq-default}
+use lib.Dec.{T, leb, eqb}
+use lib.Seq.{drop-cons, getD-drop}
+use borrow.Author.Tests.{ne-eqb, leb-true, not-true, not-false, eqb-true}
+use Rattle.octets.specs.Bytes.{within}
+use Rattle.octets.specs.Lists.{every}
+use Rattle.octets.proofs.Tests.{both, left, right, or-cases, or-neither, T-of, is-true, is-false, test-cases}
+use Rattle.request.specs.Request.{head-byte, paired, bytes-right}
 
 -- ---- its bytes
-
-high-byte : (b : ℕ) → 32 ≤ b → (b ≡ 127 → ⊥) → head-byte b ≡ true
-high-byte b h n =
-    elim (decLe b 126) [
-      | yes l ↦ rw (le-leb 32 b h, le-leb b 126 l)
-      | no l ↦ rw (le-leb 32 b h, lt-leb b 126 (omega (arith, l)), le-leb 128 b (omega (arith, l, n)))
-    ]
-
-low-byte : (b : ℕ) → b < 32 → (b ≡ 9 → ⊥) → (b ≡ 10 → ⊥) → (b ≡ 13 → ⊥) → head-byte b ≡ false
-low-byte b h e f g = rw (lt-leb 32 b h, lt-leb 128 b (omega arith), ne-eqb b 9 e, ne-eqb b 10 f, ne-eqb b 13 g)
 
 -- only a CR before matters
 paired-plain : (b : ℕ) (s : List ℕ) → eqb b 13 ≡ false → paired b s ≡ paired 0 s
@@ -37,136 +24,92 @@ unfolding paired
 paired-plain b [] e = rw e
 paired-plain b (c ∷ s) e = rw e
 
--- the bytes before i stand in the head and are right: where it ends, and whether it does so rightly, is said by the rest
-pub record Passed (s : List ℕ) (i : ℕ) : Type 0 where
-  pub inside : i ≤ length s
-  pub place : length (head-of s) ≡ i + length (head-of (drop i s))
-  pub rest : ends-right s ≡ ends-right (drop i s)
+-- the bytes before i are right: the rest says whether all are
+pub record Passed (h : List ℕ) (i : ℕ) : Type 0 where
+  pub inside : i ≤ length h
+  pub rest : bytes-right h ≡ bytes-right (drop i h)
 
-pub passed-none : (s : List ℕ) → Passed s 0
-passed-none s = record { inside = zero-le; place = sym (zero-add _); rest = refl }
-
-passed-on : (s : List ℕ) (i k : ℕ) → Passed s i → Passed (drop i s) k → Passed s (i + k)
-passed-on s i k a b =
-    let cut : drop k (drop i s) ≡ drop (i + k) s = drop-drop k i s in
-    let where-on : length (head-of (drop i s)) ≡ k + length (head-of (drop (i + k) s)) = rw cut at (b .place) in
-    record {
-      inside = omega (arith, a .inside, b .inside, length-drop i s);
-      place = omega (arith, a .place, where-on);
-      rest = a .rest ∙ b .rest ∙ ap ends-right cut;
-    }
+pub passed-none : (h : List ℕ) → Passed h 0
+passed-none h = record { inside = zero-le; rest = refl }
 
 -- one byte that is neither CR nor LF
-passed-byte : (b : ℕ) (s : List ℕ) → head-byte b ≡ true → (b ≡ 13 → ⊥) → (b ≡ 10 → ⊥) → Passed (b ∷ s) 1
+byte-on : (b : ℕ) (s : List ℕ) → head-byte b ≡ true → (b ≡ 13 → ⊥) → (b ≡ 10 → ⊥) → bytes-right (b ∷ s) ≡ bytes-right s
 unfolding paired
-passed-byte b s h n m =
-    let e : head-of (b ∷ s) ≡ b ∷ head-of s = head-byte-on b s (rw (ne-eqb 13 b (λ q. n (sym q)))) in
-    record {
-      inside = suc-le-suc zero-le;
-      place = ap length e ∙ omega arith;
-      rest = rw (e, leb·suc-suc, h, ne-eqb b 10 m, paired-plain b (head-of s) (ne-eqb b 13 n));
-    }
+byte-on b s h n m = rw (h, ne-eqb b 10 m, paired-plain b s (ne-eqb b 13 n))
 
--- CR LF that starts no empty line
-passed-fold : (s : List ℕ) → begins empty-line (13 ∷ 10 ∷ s) ≡ false → Passed (13 ∷ 10 ∷ s) 2
+pair-on : (s : List ℕ) → bytes-right (13 ∷ 10 ∷ s) ≡ bytes-right s
 unfolding paired
-passed-fold s h =
-    let e : head-of (13 ∷ 10 ∷ s) ≡ 13 ∷ 10 ∷ head-of s = head-byte-on 13 (10 ∷ s) h ∙ ap (λ (l : List ℕ). 13 ∷ l) (head-byte-on 10 s refl) in
-    record {
-      inside = suc-le-suc (suc-le-suc zero-le);
-      place = ap length e ∙ omega arith;
-      rest = rw (e, leb·suc-suc, leb·suc-suc, paired-plain 10 (head-of s) refl);
-    }
+pair-on s = rw (paired-plain 10 s refl)
 
-wrong-pair : (s h : List ℕ) → head-of s ≡ h → paired 0 h ≡ false → ends-right s ≡ false
-wrong-pair s h e p = rw (e, p, and-false, and-false)
-
-lone-lf : (s : List ℕ) → ends-right (10 ∷ s) ≡ false
+lone-lf : (s : List ℕ) → bytes-right (10 ∷ s) ≡ false
 unfolding paired
-lone-lf s = wrong-pair (10 ∷ s) (10 ∷ head-of s) (head-byte-on 10 s refl) refl
+lone-lf s = and-false (every head-byte s)
 
-lone-cr : (s : List ℕ) → begins (10 ∷ []) s ≡ false → ends-right (13 ∷ s) ≡ false
-unfolding paired head-of first-cut
-lone-cr [] h = refl
-lone-cr (c ∷ s) h =
-    let not-lf : (c ≡ 10 → ⊥) = λ q. eqb-false 10 c (sym (and-true (eqb 10 c)) ∙ h) (sym q) in
-    let e : head-of (13 ∷ c ∷ s) ≡ 13 ∷ head-of (c ∷ s) = head-byte-on 13 (c ∷ s) (rw (ne-eqb 10 c (λ q. not-lf (sym q)))) in
-    test-cases (begins empty-line (c ∷ s))
-    (λ y. wrong-pair (13 ∷ c ∷ s) (13 ∷ []) (e ∙ ap (λ (l : List ℕ). 13 ∷ l) (head-none c s y)) refl)
-    (λ n. wrong-pair (13 ∷ c ∷ s) (13 ∷ c ∷ head-of s) (e ∙ ap (λ (l : List ℕ). 13 ∷ l) (head-byte-on c s n)) (rw (ne-eqb c 10 not-lf)))
+lone-cr : (s : List ℕ) → (getD s 0 0 ≡ 10 → ⊥) → bytes-right (13 ∷ s) ≡ false
+unfolding paired
+lone-cr [] n = refl
+lone-cr (c ∷ s) n = rw (ne-eqb c 10 n, and-false)
 
--- a byte that may not stand in a head
-wrong-byte : (b : ℕ) (s : List ℕ) → begins empty-line (b ∷ s) ≡ false → head-byte b ≡ false → ends-right (b ∷ s) ≡ false
-wrong-byte b s h w = rw (head-byte-on b s h, w, and-false)
+-- 32..126
+printed-on : (b : ℕ) (s : List ℕ) → within 32 126 b ≡ true → bytes-right (b ∷ s) ≡ bytes-right s
+printed-on b s y =
+    let not-at : (c : ℕ) → within 32 126 c ≡ false → b ≡ c → ⊥ = λ c n e. true≢false (sym y ∙ ap (within 32 126) e ∙ n) in
+    byte-on b s (rw y) (not-at 13 refl) (not-at 10 refl)
 
--- what `control-size` says of a byte that starts no empty line
-passed-pair : (b : ℕ) (s : List ℕ) → begins empty-line (b ∷ s) ≡ false → T (begins (13 ∷ 10 ∷ []) (b ∷ s)) → Passed (b ∷ s) 2
-passed-pair b [] h y = absurd (right (eqb 13 b) false y)
-passed-pair b (c ∷ s) h y =
-    let b-is : 13 ≡ b = eqb-true 13 b (is-true (eqb 13 b) (left (eqb 13 b) (eqb 10 c && true) y)) in
-    let c-is : 10 ≡ c = eqb-true 10 c (is-true (eqb 10 c) (left (eqb 10 c) true (right (eqb 13 b) (eqb 10 c && true) y))) in
-    rw (← b-is, ← c-is) (passed-fold s (rw (← b-is, ← c-is) at h))
+-- any other but CR: HTAB, and 128 and up
+module _ (b : ℕ) (s : List ℕ) (n : within 32 126 b ≡ false) where
+  other-on : (eqb b 9 || leb 128 b) ≡ true → bytes-right (b ∷ s) ≡ bytes-right s
+  other-on y =
+      or-cases (eqb b 9) (leb 128 b) (T-of y)
+      (λ t. let e : b ≡ 9 = eqb-true b 9 (is-true (eqb b 9) t) in byte-on b s (rw e) (λ q. omega arith) (λ q. omega arith))
+      (λ t. let l : leb 128 b ≡ true = is-true (leb 128 b) t in byte-on b s (rw (n, l)) (λ q. omega (arith, leb-true 128 b l)) (λ q. omega (arith, leb-true 128 b l)))
 
-no-size : (t : Bool) → _≡_ {A = ℕ} (pick t 2 0) 0 → t ≡ false
-no-size true e = absurd (omega (arith, e))
-no-size false e = refl
-
-module _ (b : ℕ) (s : List ℕ) (goes-on : begins empty-line (b ∷ s) ≡ false) where
-  control-passed : (control-size (b ∷ s) ≡ 0 → ⊥) → Passed (b ∷ s) (control-size (b ∷ s))
-  control-passed n =
-      by-test (λ (z : ℕ). (z ≡ 0 → ⊥) → Passed (b ∷ s) z) (begins (9 ∷ []) (b ∷ s)) 1 (pick (begins (13 ∷ 10 ∷ []) (b ∷ s)) 2 0)
-      (λ y h. let e : b ≡ 9 = sym (eqb-true 9 b (sym (and-true (eqb 9 b)) ∙ y)) in
-      passed-byte b s (rw e) (λ q. omega (arith, e, q)) (λ q. omega (arith, e, q)))
-      (λ m. by-test (λ (z : ℕ). (z ≡ 0 → ⊥) → Passed (b ∷ s) z) (begins (13 ∷ 10 ∷ []) (b ∷ s)) 2 0 (λ y h. passed-pair b s goes-on (T-of y)) (λ o h. absurd (h refl)))
-      n
-
-  control-wrong : b < 32 → control-size (b ∷ s) ≡ 0 → ends-right (b ∷ s) ≡ false
-  control-wrong low z =
-      let not-tab : (b ≡ 9 → ⊥) = λ e. let w : _≡_ {A = ℕ} 1 0 = subst (λ (x : ℕ). control-size (x ∷ s) ≡ 0) e z in omega arith in
-      test-cases (eqb b 13)
-      (λ y. rw (eqb-true b 13 y) (lone-cr s (no-size (begins (10 ∷ []) s) (subst (λ (x : ℕ). control-size (x ∷ s) ≡ 0) (eqb-true b 13 y) z))))
-      (λ n. test-cases (eqb b 10)
+  other-wrong : (b ≡ 13 → ⊥) → (eqb b 9 || leb 128 b) ≡ false → bytes-right (b ∷ s) ≡ false
+  other-wrong m w =
+      let neither = or-neither (eqb b 9) (leb 128 b) w in
+      test-cases (eqb b 10)
       (λ y. rw (eqb-true b 10 y) (lone-lf s))
-      (λ m. wrong-byte b s goes-on (low-byte b low not-tab (eqb-false b 10 m) (eqb-false b 13 n))))
+      (λ o. rw (n, neither .1, neither .0, o, ne-eqb b 13 m))
 
 -- ---- what the code finds at a place
 
-module _ (s : List ℕ) (i : ℕ) (k : Passed s i) where
-  place-wrong : ends-right (drop i s) ≡ false → Wrong ≡ head-place s
-  place-wrong w = sym (ap (λ (t : Bool). pick t (Ends (length (head-of s))) Wrong) (k .rest ∙ w))
+module _ (h : List ℕ) (i : ℕ) (k : Passed h i) where
+  pub bytes-end : length h ≤ i → true ≡ bytes-right h
+  unfolding paired
+  bytes-end l = sym (k .rest ∙ ap bytes-right (drop-of-length-le h l))
 
-  pub place-endless : length s ≤ i → Wrong ≡ head-place s
-  unfolding head-of first-cut
-  place-endless h = place-wrong (ap ends-right (drop-of-length-le s h))
+  module _ (inside : i < length h) where
+    cut : drop i h ≡ getD h i 0 ∷ drop (i + 1) h
+    cut = rw add-one (drop-cons h i 0 inside)
 
-  module _ (inside : i < length s) where
-    cut : drop i s ≡ getD s i 0 ∷ drop (suc i) s
-    cut = drop-cons s i 0 inside
+    here : bytes-right h ≡ bytes-right (getD h i 0 ∷ drop (i + 1) h)
+    here = k .rest ∙ ap bytes-right cut
 
-    pub place-del : getD s i 0 ≡ 127 → Wrong ≡ head-place s
-    place-del e = place-wrong (rw (cut, e) (wrong-byte 127 (drop (suc i) s) refl refl))
+    pub bytes-printed : within 32 126 (getD h i 0) ≡ true → Passed h (i + 1)
+    bytes-printed y = record { inside = add-one-le inside; rest = here ∙ printed-on (getD h i 0) (drop (i + 1) h) y }
 
-    pub place-text : 32 ≤ getD s i 0 → (getD s i 0 ≡ 127 → ⊥) → Passed s (i + 1)
-    place-text h n = passed-on s i 1 k (rw cut (passed-byte _ _ (high-byte (getD s i 0) h n) (λ e. omega (arith, e)) (λ e. omega (arith, e))))
+    module _ (cr : getD h i 0 ≡ 13) (c : ℕ) (ec : c ≡ getD h (i + 1) 0) where
+      pub bytes-lone : (c ≡ 10 → ⊥) → false ≡ bytes-right h
+      bytes-lone m =
+          let next : getD (drop (i + 1) h) 0 0 ≡ c = getD-drop (i + 1) h 0 0 ∙ ap (λ (n : ℕ). getD h n 0) (add-zero (i + 1)) ∙ sym ec in
+          sym (here ∙ rw cr (lone-cr (drop (i + 1) h) (λ e. m (sym next ∙ e))))
 
-    module _ (r : Bool) (er : r ≡ begins empty-line (drop i s)) where
-      pub place-found : r ≡ true → Ends i ≡ head-place s
-      unfolding paired
-      place-found y =
-          let e : head-of (drop i s) ≡ [] = rw cut (head-none _ _ (rw cut at (sym er ∙ y))) in
-          let at-i : length (head-of s) ≡ i = omega (arith, k .place, ap length e) in
-          let right : ends-right (drop i s) ≡ true = rw (e, cut, lt-ltb 0 (suc (length (drop (suc i) s))) (suc-le-suc zero-le)) in
-          sym (ap (λ (t : Bool). pick t (Ends (length (head-of s))) Wrong) (k .rest ∙ right) ∙ ap Ends at-i)
+      pub bytes-pair : c ≡ 10 → Passed h (i + 2)
+      bytes-pair e =
+          let more : i + 1 < length h = elim (decLe (length h) (i + 1)) [
+            | yes l ↦ absurd (omega (arith, e, ec, List·getD-eq-default h 0 l))
+            | no l ↦ omega (arith, l)
+          ] in
+          let two : suc (i + 1) ≡ i + 2 = omega arith in
+          let next : drop (i + 1) h ≡ 10 ∷ drop (i + 2) h = drop-cons h (i + 1) 0 more ∙ (λ j. (sym ec ∙ e) j ∷ drop (two j) h) in
+          record { inside = omega arith; rest = here ∙ rw (cr, next) (pair-on (drop (i + 2) h)) }
 
-      module _ (n : r ≡ false) (low : getD s i 0 < 32) (z : ℕ) (ez : z ≡ control-size (drop i s)) where
-        pub place-control : z ≡ 0 → Wrong ≡ head-place s
-        place-control h = place-wrong (rw cut (control-wrong _ _ (rw cut at (sym er ∙ n)) low (rw cut at (sym ez ∙ h))))
+    module _ (n : within 32 126 (getD h i 0) ≡ false) where
+      pub bytes-other : not (eqb (getD h i 0) 9 || leb 128 (getD h i 0)) ≡ false → Passed h (i + 1)
+      bytes-other y = record { inside = add-one-le inside; rest = here ∙ other-on (getD h i 0) (drop (i + 1) h) n (not-false _ y) }
 
-        size-passed : (z ≡ 0 → ⊥) → Passed (drop i s) z
-        size-passed h = rw (ez, cut) (control-passed _ _ (rw cut at (sym er ∙ n)) (λ e. h (ez ∙ rw cut e)))
-
-        pub place-size : (z ≡ 0 → ⊥) → Passed s (i + z)
-        place-size h = passed-on s i z k (size-passed h)
+      pub bytes-wrong : (getD h i 0 ≡ 13 → ⊥) → not (eqb (getD h i 0) 9 || leb 128 (getD h i 0)) ≡ true → false ≡ bytes-right h
+      bytes-wrong m y = sym (here ∙ other-wrong (getD h i 0) (drop (i + 1) h) n m (not-true _ y))
 
 -- ---- its lines
 

@@ -14,23 +14,26 @@ use borrow.Author.Tests.{lt-ltb, le-ltb}
 use Rattle.octets.specs.Bytes.{token, white}
 use Rattle.octets.specs.Lists.{pick}
 use Rattle.octets.proofs.Tests.{left, T-of, is-true}
-use Rattle.request.specs.Cutting.{begins}
-use Rattle.request.specs.Places.{head-of, part, field-lines, fields-start, line-starts, colon-in, line-colons, reading, starts-of, colons-of, Read, parts-of, field-parts, Indexed}
-use Rattle.request.specs.Request.{Field, Request, paired, name-as-matched, read-request}
-use Rattle.request.specs.Searching.{first, line-break}
-use Rattle.request.specs.Steps.{lines-from, judged}
-use Rattle.request.specs.Values.{trim-right, reduced, values-of}
+use Rattle.cuts.specs.Cutting.{begins}
+use Rattle.cuts.specs.Parts.{part}
+use Rattle.cuts.specs.Searching.{first}
+use Rattle.cuts.specs.Trimming.{trim-right}
+use Rattle.cuts.proofs.Parts.{drop-take, length-part, part-front}
+use Rattle.cuts.proofs.Search.{first-le, first-holds, begins-long, before-length}
+use Rattle.cuts.proofs.Trims.{trim-le, trim-front}
+use Rattle.contents.specs.Values.{reduced, name-as-matched, values-of}
+use Rattle.request.specs.Places.{head-of, field-lines, fields-start, line-starts, colon-in, line-colons, reading, starts-of, colons-of, places-of, Read, Placed, parts-of, field-parts}
+use Rattle.request.specs.Request.{Field, Request, paired, read-request}
+use Rattle.request.specs.Steps.{line-break, lines-from, judged}
 use Rattle.request.specs.declared.FieldParts.{FieldParts}
 use Rattle.request.specs.declared.Judged.the-variants.{Accepted}
+use Rattle.request.specs.declared.Places.{Places}
 use Rattle.request.specs.declared.Reading.the-variants.{Readable}
 use Rattle.request.proofs.Accepted.{Accepts, accepts}
 use Rattle.request.proofs.Answers.{fields-count, starts-length, colons-length}
 use Rattle.request.proofs.Fields.{end-order, end-inside, line-long, starts-here, colons-here}
 use Rattle.request.proofs.Lines.{line-here, line-next, line-past}
 use Rattle.request.proofs.Nth.{Nth, nth, field-is, name-token, colon-in-line, token-long}
-use Rattle.request.proofs.Parts.{drop-take, length-part, part-front}
-use Rattle.request.proofs.Search.{first-le, first-holds, begins-long, before-length}
-use Rattle.request.proofs.Trims.{trim-le, trim-front}
 
 -- ---- the end of a field's line
 
@@ -142,32 +145,29 @@ pub record FieldSays (s : List ℕ) (q : Request) (head i : ℕ) (r : FieldParts
   pub value-order : r .value ≤ r .end
   pub inside : r .end ≤ head
 
-readable-of : (h : List ℕ) (o : Option Request) (m u e n : ℕ) → Readable m u e n ≡ reading h o → Accepted (length h) m u (fields-start h) ≡ judged h o
-readable-of h none m u e n q = let z : _≡_ {A = ℕ} 0 1 = cc in absurd (omega arith)
-readable-of h (some x) m u e n q =
-    let em : m ≡ length (x .method) = cc in
-    let eu : u ≡ length (x .method) + 1 + length (x .uri) = cc in
-    (λ i. Accepted (length h) (em i) (eu i) (fields-start h))
+module _ (h : List ℕ) (o : Option Request) (w : Places) (x : Request) (q : Readable w ≡ reading h o) (r : o ≡ some x) where
+  places-so : w ≡ places-of h x
+  places-so = cc (ap (reading h) r)
 
-readable-head : (h : List ℕ) (o : Option Request) (m u e n : ℕ) → Readable m u e n ≡ reading h o → length h ≡ e
-readable-head h none m u e n q = let z : _≡_ {A = ℕ} 0 1 = cc in absurd (omega arith)
-readable-head h (some x) m u e n q = cc
+  pub readable-count : length (x .fields) ≡ w .fields
+  readable-count = sym (ap (λ (v : Places). v .fields) places-so)
 
-pub readable-count : (h : List ℕ) (o : Option Request) (m u e n : ℕ) (x : Request) → Readable m u e n ≡ reading h o → o ≡ some x → length (x .fields) ≡ n
-readable-count h none m u e n x q r = let z : _≡_ {A = ℕ} 0 1 = cc in absurd (omega arith)
-readable-count h (some y) m u e n x q r = let same : y ≡ x = cc in sym (ap (λ (z : Request). length (z .fields)) same) ∙ cc
+  pub readable-lines : w .lines ≡ w .head + 4
+  readable-lines = ap (λ (v : Places). v .lines) places-so ∙ sym (ap (λ (v : Places). v .head + 4) places-so)
 
-pub accepted-by : (s : List ℕ) (m u e n : ℕ) → Readable m u e n ≡ reading (head-of s) (read-request s) → Accepts s e m u (fields-start (head-of s))
-accepted-by s m u e n q =
-    subst (λ (k : ℕ). Accepts s k m u (fields-start (head-of s))) (readable-head (head-of s) (read-request s) m u e n q)
-    (accepts s (length (head-of s)) m u (fields-start (head-of s)) (readable-of (head-of s) (read-request s) m u e n q))
+readable-of : (h : List ℕ) (o : Option Request) (w : Places) → Readable w ≡ reading h o → Accepted (w .head) (w .method) (w .uri) (fields-start h) ≡ judged h o
+readable-of h none w q = let z : _≡_ {A = ℕ} 0 1 = cc in absurd (omega arith)
+readable-of h (some x) w q = ap (λ (v : Places). Accepted (v .head) (v .method) (v .uri) (fields-start h)) (places-so h (some x) w x q refl)
 
-module _ (s starts colons : List ℕ) (head fields i : ℕ) (x : Indexed s starts colons head fields i) where
-  a : Accepts s head (x .method) (x .uri) (fields-start (head-of s))
-  a = accepted-by s (x .method) (x .uri) head fields (x .read)
+pub accepted-by : (s : List ℕ) (w : Places) → Readable w ≡ reading (head-of s) (read-request s) → Accepts s (w .head) (w .method) (w .uri) (fields-start (head-of s))
+accepted-by s w q = accepts s (w .head) (w .method) (w .uri) (fields-start (head-of s)) (readable-of (head-of s) (read-request s) w q)
+
+module _ (s starts colons : List ℕ) (w : Places) (x : Placed s starts colons w) (i : ℕ) (less : i < w .fields) where
+  a : Accepts s (w .head) (w .method) (w .uri) (fields-start (head-of s))
+  a = accepted-by s w (x .read)
 
   abbrev h : List ℕ
-  h = take head s
+  h = take (w .head) s
 
   abbrev f : ℕ
   f = fields-start (head-of s)
@@ -175,33 +175,33 @@ module _ (s starts colons : List ℕ) (head fields i : ℕ) (x : Indexed s start
   abbrev ls : List (List ℕ)
   ls = lines-from h f
 
-  pub head-inside : head ≤ length s
+  pub head-inside : w .head ≤ length s
   head-inside = omega (arith, a .body-inside)
 
-  long-h : length h ≡ head
-  long-h = length-take-le head s head-inside
+  long-h : length h ≡ w .head
+  long-h = length-take-le (w .head) s head-inside
 
-  count : length ls ≡ fields
-  count = sym (fields-count ls (a .request .fields) (a .fields-are)) ∙ readable-count (head-of s) (read-request s) (x .method) (x .uri) head fields (a .request) (x .read) (a .read)
+  count : length ls ≡ w .fields
+  count = sym (fields-count ls (a .request .fields) (a .fields-are)) ∙ readable-count (head-of s) (read-request s) w (a .request) (x .read) (a .read)
 
   pub line : LineAt h f i
-  line = line-at h i f (a .paired-on) (omega (arith, count, x .inside))
+  line = line-at h i f (a .paired-on) (omega (arith, count, less))
 
-  starts-is : take fields starts ≡ line-starts f ls
+  starts-is : take (w .fields) starts ≡ line-starts f ls
   starts-is =
       x .starts-are ∙ ap (starts-of (head-of s)) (a .read)
       ∙ ap (line-starts f) (ap field-lines (a .head-is) ∙ a .lines-are)
 
-  colons-is : take fields colons ≡ line-colons f ls
+  colons-is : take (w .fields) colons ≡ line-colons f ls
   colons-is =
       x .colons-are ∙ ap (colons-of (head-of s)) (a .read)
       ∙ ap (line-colons f) (ap field-lines (a .head-is) ∙ a .lines-are)
 
   pub start-there : getD starts i 0 ≡ line .at
-  start-there = sym (getD-take fields starts i 0 (x .inside)) ∙ ap (λ (l : List ℕ). getD l i 0) starts-is ∙ at-front (line-starts f ls) i (line .at) 0 _ (line .starts)
+  start-there = sym (getD-take (w .fields) starts i 0 less) ∙ ap (λ (l : List ℕ). getD l i 0) starts-is ∙ at-front (line-starts f ls) i (line .at) 0 _ (line .starts)
 
   pub colon-there : getD colons i 0 ≡ line .at + colon-in (part h (line .at) (line .end))
-  colon-there = sym (getD-take fields colons i 0 (x .inside)) ∙ ap (λ (l : List ℕ). getD l i 0) colons-is ∙ at-front (line-colons f ls) i _ 0 _ (line .colons)
+  colon-there = sym (getD-take (w .fields) colons i 0 less) ∙ ap (λ (l : List ℕ). getD l i 0) colons-is ∙ at-front (line-colons f ls) i _ 0 _ (line .colons)
 
   abbrev at : ℕ
   at = line .at
@@ -212,7 +212,7 @@ module _ (s starts colons : List ℕ) (head fields i : ℕ) (x : Indexed s start
   abbrev l : List ℕ
   l = part h at end
 
-  end-le : end ≤ head
+  end-le : end ≤ w .head
   end-le = omega (arith, end-inside h at end (line .inside) (line .end-is), long-h)
 
   at-le : at ≤ end
@@ -222,7 +222,7 @@ module _ (s starts colons : List ℕ) (head fields i : ℕ) (x : Indexed s start
   long-l = line-long h at end (line .inside) (line .end-is)
 
   line-is : l ≡ part s at end
-  line-is = part-front head at end s end-le
+  line-is = part-front (w .head) at end s end-le
 
   colon-le : colon-in l ≤ length l
   unfolding colon-in
@@ -231,8 +231,8 @@ module _ (s starts colons : List ℕ) (head fields i : ℕ) (x : Indexed s start
   abbrev later : List (List ℕ)
   later = lines-from h (end + 2)
 
-  later-count : i + 1 + length later ≡ fields
-  later-count = omega (arith, ap length (line .lines), length-drop i ls, count, x .inside)
+  later-count : i + 1 + length later ≡ w .fields
+  later-count = omega (arith, ap length (line .lines), length-drop i ls, count, less)
 
   pub few : 2 * i ≤ 65535
   few = omega (arith, line .on, line .inside, long-h, head-inside, a .short)
@@ -243,9 +243,9 @@ module _ (s starts colons : List ℕ) (head fields i : ℕ) (x : Indexed s start
   next-by [] k = absurd (not-suc-le-zero k)
   next-by (k ∷ ks) m = refl
 
-  pub next-there : i + 1 < fields → getD starts (i + 1) 0 ≡ end + 2
+  pub next-there : i + 1 < w .fields → getD starts (i + 1) 0 ≡ end + 2
   next-there more =
-      sym (getD-take fields starts (i + 1) 0 more) ∙ ap (λ (r : List ℕ). getD r (i + 1) 0) starts-is
+      sym (getD-take (w .fields) starts (i + 1) 0 more) ∙ ap (λ (r : List ℕ). getD r (i + 1) 0) starts-is
       ∙ ap (λ (k : ℕ). getD (line-starts f ls) k 0) (sym (add-zero (i + 1))) ∙ sym (getD-drop (i + 1) (line-starts f ls) 0 0)
       ∙ ap (λ (r : List ℕ). getD r 0 0) (drop-next (line-starts f ls) i at (line-starts (end + 2) later) (line .starts))
       ∙ next-by later (omega (arith, later-count))
@@ -254,10 +254,10 @@ module _ (s starts colons : List ℕ) (head fields i : ℕ) (x : Indexed s start
   no-later [] k = refl
   no-later (k ∷ ks) m = absurd (omega arith)
 
-  last-there : fields ≤ i + 1 → end ≡ head
+  last-there : w .fields ≤ i + 1 → end ≡ w .head
   last-there past = last-line h at end (line .inside) (line .paired-on) (line .end-is) (no-later later (omega (arith, later-count))) ∙ long-h
 
-  pub next-room : i + 1 < fields → 2 ≤ getD starts (i + 1) 0
+  pub next-room : i + 1 < w .fields → 2 ≤ getD starts (i + 1) 0
   next-room more = omega (arith, next-there more)
 
   -- the parts of field i are those of this line
@@ -276,13 +276,13 @@ module _ (s starts colons : List ℕ) (head fields i : ℕ) (x : Indexed s start
 
   -- what the code finds
   pub starts-place : i < length starts
-  starts-place = omega (arith, ap length starts-is, starts-length f ls, count, length-take fields starts, min-le-right fields (length starts), x .inside)
+  starts-place = omega (arith, ap length starts-is, starts-length f ls, count, length-take (w .fields) starts, min-le-right (w .fields) (length starts), less)
 
   pub colons-place : i < length colons
-  colons-place = omega (arith, ap length colons-is, colons-length f ls, count, length-take fields colons, min-le-right fields (length colons), x .inside)
+  colons-place = omega (arith, ap length colons-is, colons-length f ls, count, length-take (w .fields) colons, min-le-right (w .fields) (length colons), less)
 
-  pub starts-room : fields ≤ length starts
-  starts-room = omega (arith, ap length starts-is, starts-length f ls, count, length-take fields starts, min-le-right fields (length starts))
+  pub starts-room : w .fields ≤ length starts
+  starts-room = omega (arith, ap length starts-is, starts-length f ls, count, length-take (w .fields) starts, min-le-right (w .fields) (length starts))
 
   module _ (p k : ℕ) (p-is : p ≡ getD starts i 0) (k-is : k ≡ getD colons i 0) where
     pub name-order : p ≤ k
@@ -306,7 +306,7 @@ module _ (s starts colons : List ℕ) (head fields i : ℕ) (x : Indexed s start
       pub stop-inside : p + n ≤ k
       stop-inside = omega (arith, n-is, trim-le (part s p k), length-part s p k name-order name-inside, name-order)
 
-      pub parts-are : (e : ℕ) → e ≡ pick (ltb (i + 1) fields) (getD starts (i + 1) 0 - 2) head
+      pub parts-are : (e : ℕ) → e ≡ pick (ltb (i + 1) (w .fields)) (getD starts (i + 1) 0 - 2) (w .head)
           → _≡_ {A = FieldParts} (record { name = p; stop = p + n; value = k + 1; end = e }) (field-parts (head-of s) i)
       parts-are e e-is =
           let p-at : p ≡ at = p-is ∙ start-there in
@@ -316,13 +316,13 @@ module _ (s starts colons : List ℕ) (head fields i : ℕ) (x : Indexed s start
           (λ j. record { name = p-at j; stop = n-so j; value = k-so j; end = e-so j })
           ∙ sym parts-so
         where
-          end-found : (e : ℕ) → e ≡ pick (ltb (i + 1) fields) (getD starts (i + 1) 0 - 2) head → e ≡ end
+          end-found : (e : ℕ) → e ≡ pick (ltb (i + 1) (w .fields)) (getD starts (i + 1) 0 - 2) (w .head) → e ≡ end
           end-found e e-is =
-              elim (decLe fields (i + 1)) [
-                | yes g ↦ e-is ∙ sym (end-by-head starts head fields i g) ∙ sym (last-there g)
+              elim (decLe (w .fields) (i + 1)) [
+                | yes g ↦ e-is ∙ sym (end-by-head starts (w .head) (w .fields) i g) ∙ sym (last-there g)
                 | no g ↦
-                    let more : i + 1 < fields = omega (arith, g) in
-                    e-is ∙ sym (end-by-next starts head fields i (getD starts (i + 1) 0) refl more) ∙ omega (arith, next-there more)
+                    let more : i + 1 < w .fields = omega (arith, g) in
+                    e-is ∙ sym (end-by-next starts (w .head) (w .fields) i (getD starts (i + 1) 0) refl more) ∙ omega (arith, next-there more)
               ]
 
   -- ---- for callers
@@ -362,7 +362,7 @@ module _ (s starts colons : List ℕ) (head fields i : ℕ) (x : Indexed s start
   written-some : 0 < length written
   written-some = token-long written is-token
 
-  says : FieldSays s (a .request) head i (parts-of at l)
+  says : FieldSays s (a .request) (w .head) i (parts-of at l)
   says = record {
     list =
         the-field .there
@@ -374,28 +374,34 @@ module _ (s starts colons : List ℕ) (head fields i : ℕ) (x : Indexed s start
     inside = omega (arith, long-l, at-le, end-le);
   }
 
-  pub field-says : (q : Request) → read-request s ≡ some q → FieldSays s q head i (field-parts (head-of s) i)
+  pub field-says : (q : Request) → read-request s ≡ some q → FieldSays s q (w .head) i (field-parts (head-of s) i)
   field-says q e =
       let same : a .request ≡ q = Option·some-injective (a .request) q (sym (a .read) ∙ e) in
-      subst (λ (r : FieldParts). FieldSays s q head i r) (sym parts-so) (subst (λ (y : Request). FieldSays s y head i (parts-of at l)) same says)
+      subst (λ (r : FieldParts). FieldSays s q (w .head) i r) (sym parts-so) (subst (λ (y : Request). FieldSays s y (w .head) i (parts-of at l)) same says)
 
 -- what `read` wrote
-module _ (s starts colons starts′ colons′ : List ℕ) (m u head fields : ℕ) (k : Read s starts colons starts′ colons′ (Readable m u head fields)) where
-  pub places-are : (take fields starts′ ≡ starts-of (head-of s) (read-request s)) × (take fields colons′ ≡ colons-of (head-of s) (read-request s))
-  places-are =
-      let a = accepted-by s m u head fields (k .answer) in
-      let ls = lines-from (take head s) (fields-start (head-of s)) in
-      let lines : field-lines (head-of s) ≡ ls = ap field-lines (a .head-is) ∙ a .lines-are in
-      let count : length ls ≡ fields = sym (fields-count ls (a .request .fields) (a .fields-are)) ∙ readable-count (head-of s) (read-request s) m u head fields (a .request) (k .answer) (a .read) in
-      let starts-long : length (starts-of (head-of s) (read-request s)) ≡ fields =
-      ap (λ (o : Option Request). length (starts-of (head-of s) o)) (a .read) ∙ starts-length (fields-start (head-of s)) (field-lines (head-of s)) ∙ ap length lines ∙ count
-      in
-      let colons-long : length (colons-of (head-of s) (read-request s)) ≡ fields =
-      ap (λ (o : Option Request). length (colons-of (head-of s) o)) (a .read) ∙ colons-length (fields-start (head-of s)) (field-lines (head-of s)) ∙ ap length lines ∙ count
-      in (
-        ap (take fields) (k .starts-are) ∙ take-at (starts-of (head-of s) (read-request s)) _ fields starts-long,
-        ap (take fields) (k .colons-are) ∙ take-at (colons-of (head-of s) (read-request s)) _ fields colons-long,
-      )
+-- what `read` leaves
+module _ (s starts colons starts′ colons′ : List ℕ) (w : Places) (k : Read s starts colons starts′ colons′ (Readable w)) where
+  a-read : Accepts s (w .head) (w .method) (w .uri) (fields-start (head-of s))
+  a-read = accepted-by s w (k .answer)
 
-  pub indexed : (i : ℕ) → i < fields → Indexed s starts′ colons′ head fields i
-  indexed i inside = record { method = m; uri = u; read = k .answer; starts-are = places-are .0; colons-are = places-are .1; inside = inside }
+  lines-many : length (field-lines (head-of s)) ≡ w .fields
+  lines-many =
+      let ls = lines-from (take (w .head) s) (fields-start (head-of s)) in
+      ap length (ap field-lines (a-read .head-is) ∙ a-read .lines-are) ∙ sym (fields-count ls (a-read .request .fields) (a-read .fields-are))
+      ∙ readable-count (head-of s) (read-request s) w (a-read .request) (k .answer) (a-read .read)
+
+  starts-long : length (starts-of (head-of s) (read-request s)) ≡ w .fields
+  starts-long =
+      ap (λ (o : Option Request). length (starts-of (head-of s) o)) (a-read .read) ∙ starts-length (fields-start (head-of s)) (field-lines (head-of s)) ∙ lines-many
+
+  colons-long : length (colons-of (head-of s) (read-request s)) ≡ w .fields
+  colons-long =
+      ap (λ (o : Option Request). length (colons-of (head-of s) o)) (a-read .read) ∙ colons-length (fields-start (head-of s)) (field-lines (head-of s)) ∙ lines-many
+
+  pub placed : Placed s starts′ colons′ w
+  placed = record {
+    read = k .answer;
+    starts-are = ap (take (w .fields)) (k .starts-are) ∙ take-at (starts-of (head-of s) (read-request s)) _ (w .fields) starts-long;
+    colons-are = ap (take (w .fields)) (k .colons-are) ∙ take-at (colons-of (head-of s) (read-request s)) _ (w .fields) colons-long;
+  }

@@ -6,29 +6,27 @@ use mathlib.Core.List.{List, [], _∷_}
 use Prim.Native.Nat.{ℕ, suc, _+_, _-_, _≤_, _<_}
 use native.Mathlib.Nat.{suc-add, sub-zero}
 use native.Mathlib.Omega.{arith}
-use native.Mathlib.Decide.{decLe}
-use lib.Dec.{T, eqb, ltb}
+use lib.Dec.{T, eqb}
 use lib.ListN.{length, getD, take, drop}
 use lib.Seq.{length-take-le}
-use borrow.Author.Tests.{lt-ltb, ltb-true, le-leb, lt-leb, eqb-false, ne-eqb}
+use borrow.Author.Tests.{le-leb, lt-leb, eqb-false, ne-eqb, not-true, not-false}
 use Rattle.octets.specs.Bytes.{white}
-use Rattle.octets.specs.Lists.{pick, every}
+use Rattle.octets.specs.Lists.{every}
 use Rattle.octets.specs.Option.{_>>=_, holds}
-use Rattle.octets.proofs.Tests.{left, right, T-of, is-true}
-use Rattle.request.specs.Cutting.{Cut, begins, push, first-cut, cut-by}
-use Rattle.request.specs.Places.{before-cut, head-of, first-line, fields-start}
+use Rattle.octets.proofs.Tests.{right, T-of}
+use Rattle.cuts.specs.Cutting.{Cut, begins, push, first-cut, cut-by, before-cut, first-line}
+use Rattle.cuts.specs.Searching.{first}
+use Rattle.cuts.proofs.Search.{first-le, first-no, cut-found, cut-missing}
+use Rattle.request.specs.Places.{head-of, fields-start}
 use Rattle.request.specs.Request.{Field, Request, Start, head-byte, paired, head-lines, continues, whole-fields, start-line, field, all-fields, head, empty-line, read-request, bytes-right}
-use Rattle.request.specs.Searching.{first}
-use Rattle.request.specs.Steps.{ends-right, head-place, start-places, is-some, is-field, lines-from, judged}
-use Rattle.request.specs.declared.head_bytes.HeadPlace.{HeadPlace}
-use Rattle.request.specs.declared.head_bytes.HeadPlace.the-variants.{Wrong, Ends}
+use Rattle.request.specs.Steps.{start-places, is-some, is-field, lines-from, judged}
 use Rattle.request.specs.declared.Judged.{Judged}
 use Rattle.request.specs.declared.Judged.the-variants.{Refused, Accepted}
 use Rattle.request.specs.declared.start_lines.StartLine.{StartLine}
 use Rattle.request.specs.declared.start_lines.StartLine.the-variants.{Bad, Good}
 use Rattle.request.proofs.Head.{Pairs, pairs-end, pairs-byte, pairs-fold, pairs, pairs-paired}
 use Rattle.request.proofs.Lines.{lines-byte, continues-at, from-suc, from-start}
-use Rattle.request.proofs.Search.{first-le, first-no, cut-found, cut-missing, head-end}
+use Rattle.request.proofs.Ends.{head-end}
 
 -- ---- the start line and what follows it
 
@@ -219,44 +217,7 @@ module _ (s : List ℕ) (short : length s ≤ 65535) (e : ℕ) (e-is : e ≡ len
     pub judge-bytes : bytes-right (head-of s) ≡ false → Refused ≡ judged (head-of s) (read-request s)
     judge-bytes n = sym (ap (judged (head-of s)) (read-by-test false n))
 
--- ---- the place that the code finds
-
--- the head ends at e, and its bytes are right
-record Ended (s : List ℕ) (e : ℕ) : Type 0 where
-  place : e ≡ length (head-of s)
-  more : e < length s
-  bytes : bytes-right (head-of s) ≡ true
-
-ends-by : (s : List ℕ) (e : ℕ) (t : Bool) → ends-right s ≡ t → Ends e ≡ pick t (Ends (length (head-of s))) Wrong → Ended s e
-ends-by s e true y q =
-    let long : e ≡ length (head-of s) = cc in
-    let inside : length (head-of s) < length s = ltb-true (length (head-of s)) (length s) (is-true (ltb (length (head-of s)) (length s)) (left (ltb (length (head-of s)) (length s)) (bytes-right (head-of s)) (T-of y))) in
-    record {
-      place = long;
-      more = omega arith;
-      bytes = is-true (bytes-right (head-of s)) (right (ltb (length (head-of s)) (length s)) (bytes-right (head-of s)) (T-of y));
-    }
-ends-by s e false y q = let z : _≡_ {A = ℕ} 0 1 = cc in absurd (omega arith)
-
-wrong-by : (s : List ℕ) (t : Bool) → Wrong ≡ pick t (Ends (length (head-of s))) Wrong → t ≡ false
-wrong-by s true q = let z : _≡_ {A = ℕ} 0 1 = cc in absurd (omega arith)
-wrong-by s false q = refl
-
-module _ (s : List ℕ) (short : length s ≤ 65535) (p : HeadPlace) (ep : p ≡ head-place s) where
-  pub judge-wrong : p ≡ Wrong → Refused ≡ judged (head-of s) (read-request s)
-  judge-wrong w =
-      let e = length (head-of s) in
-      let wrong : ends-right s ≡ false = wrong-by s (ends-right s) (sym w ∙ ep) in
-      elim (decLe (length s) e) [
-        | yes h ↦ judge-endless s short e refl h
-        | no h ↦
-            let more : e < length s = omega (arith, h) in
-            judge-bytes s short e refl more (ap (λ (t : Bool). t && bytes-right (head-of s)) (sym (lt-ltb e (length s) more)) ∙ wrong)
-      ]
-
-  module _ (e : ℕ) (y : p ≡ Ends e) where
-    ended : Ended s e
-    ended = ends-by s e (ends-right s) refl (sym y ∙ ep)
+    -- ---- what the code finds of its bytes
 
     abbrev front : List ℕ
     front = take (e - 0) (drop 0 s)
@@ -264,21 +225,23 @@ module _ (s : List ℕ) (short : length s ≤ 65535) (p : HeadPlace) (ep : p ≡
     front-is : front ≡ take e s
     front-is = ap (λ (k : ℕ). take k s) (sub-zero e)
 
-    head-front : head-of s ≡ take e s
-    head-front = head-is-front s short e (ended .place) (ended .more)
-
-    pub place-inside : e ≤ length s
-    place-inside = omega (arith, ended .more)
-
     pub front-short : length front ≤ 65535
-    front-short = omega (arith, ap length front-is, length-take-le e s place-inside, place-inside)
+    front-short = omega (arith, ap length front-is, length-take-le e s (omega arith))
 
-    pub front-paired : T (paired 0 front)
-    front-paired = subst (λ (l : List ℕ). T (paired 0 l)) (head-front ∙ sym front-is) (right (every head-byte (head-of s)) (paired 0 (head-of s)) (T-of (ended .bytes)))
+    module _ (r : Bool) (er : r ≡ bytes-right front) where
+      right-is : bytes-right (head-of s) ≡ r
+      right-is = ap bytes-right (head-is-front ∙ sym front-is) ∙ sym er
 
-    pub judge-lines : (j : Judged) → j ≡ judged front (head (head-lines front) []) → j ≡ judged (head-of s) (read-request s)
-    judge-lines j ej =
-        ej ∙ ap (λ (l : List ℕ). judged l (head (head-lines l) [])) front-is
-        ∙ head-free (take e s) [] (drop (e + 4) s) (head-lines (take e s))
-        ∙ ap (λ (l : List ℕ). judged l (head (head-lines (take e s)) (drop (e + 4) s))) (sym head-front)
-        ∙ sym (ap (judged (head-of s)) (read-by-test s short e (ended .place) (ended .more) true (ended .bytes)))
+      pub judge-wrong : not r ≡ true → Refused ≡ judged (head-of s) (read-request s)
+      judge-wrong n = judge-bytes (right-is ∙ not-true r n)
+
+      module _ (y : not r ≡ false) where
+        pub front-paired : T (paired 0 front)
+        front-paired = right (every head-byte front) (paired 0 front) (T-of (sym er ∙ not-false r y))
+
+        pub judge-lines : (j : Judged) → j ≡ judged front (head (head-lines front) []) → j ≡ judged (head-of s) (read-request s)
+        judge-lines j ej =
+            ej ∙ ap (λ (l : List ℕ). judged l (head (head-lines l) [])) front-is
+            ∙ head-free (take e s) [] (drop (e + 4) s) (head-lines (take e s))
+            ∙ ap (λ (l : List ℕ). judged l (head (head-lines (take e s)) (drop (e + 4) s))) (sym head-is-front)
+            ∙ sym (ap (judged (head-of s)) (read-by-test true (right-is ∙ not-false r y)))

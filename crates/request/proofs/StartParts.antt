@@ -18,13 +18,13 @@ use Rattle.octets.specs.Option.{_>>=_, holds}
 use Rattle.octets.proofs.Classes.{rules}
 use Rattle.octets.proofs.Equal.{lowers-length}
 use Rattle.octets.proofs.Tests.{left, T-of, is-true, same-eq}
-use Rattle.request.specs.Cutting.{begins, cut-at}
-use Rattle.request.specs.Places.{part}
+use Rattle.cuts.specs.Cutting.{begins, cut-at}
+use Rattle.cuts.specs.Parts.{part}
+use Rattle.cuts.specs.Searching.{first}
+use Rattle.cuts.proofs.Cuts.{cut-on, cut-last, nonempty}
 use Rattle.request.specs.Request.{Start, three, start-line, parts-right}
-use Rattle.request.specs.Searching.{first, word-byte}
-use Rattle.request.specs.Steps.{start-places}
+use Rattle.request.specs.Steps.{word-byte, start-places}
 use Rattle.request.specs.declared.start_lines.StartLine.the-variants.{Bad, Good}
-use Rattle.request.proofs.Cuts.{cut-on, cut-last, nonempty}
 
 -- ---- words
 

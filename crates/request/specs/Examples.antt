@@ -6,8 +6,8 @@ use Prim.Native.String.{String}
 use mathlib.Core.List.{List, [], _∷_, _++_}
 use lib.Dec.{T}
 use Rattle.octets.specs.Lists.{text, every, same}
+use Rattle.contents.specs.Body.{Line, session-lines}
 use Rattle.request.specs.Request.{Request, Field, read-request}
-use Rattle.request.specs.Body.{Line, session-lines}
 
 -- a request that is read or not; the names and the values of one with these fields; the lines of a body
 pub data Example : Type 0 where

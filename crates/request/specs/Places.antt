@@ -1,44 +1,23 @@
 -- Where the parts of a request stand in its bytes. Every place is a sum of lengths of what the definitions cut the bytes into.
 use mathlib.Core.Option.{Option, none, some}
 use mathlib.Core.Path.{_≡_}
-use mathlib.Core.List.{List, [], _∷_, _++_, map}
-use Prim.Native.Nat.{ℕ, _+_, _-_, _*_, _≤_, _<_}
-use lib.ListN.{length, getD, take, drop}
-use lib.Dec.{leb, eqb}
-use Rattle.octets.specs.Lists.{text, pick}
-use Rattle.request.specs.Body.{Line, ended, lines}
-use Rattle.request.specs.Cutting.{Cut, first-cut, cut-by, cut-at}
+use mathlib.Core.List.{List, [], _∷_}
+use Prim.Native.Nat.{ℕ, _+_, _*_, _≤_}
+use lib.ListN.{length, getD, take}
+use Rattle.octets.specs.Lists.{text}
+use Rattle.cuts.specs.Cutting.{first-cut, cut-by, before-cut, first-line, later-lines}
+use Rattle.cuts.specs.Parts.{over}
+use Rattle.cuts.specs.Trimming.{trim-right}
 use Rattle.request.specs.Request.{empty-line, head-lines, whole-fields, Request, read-request}
-use Rattle.request.specs.Values.{trim-left, trim-right, trim, pieces}
-use Rattle.request.specs.declared.BodyLine.{BodyLine}
-use Rattle.request.specs.declared.BodyLine.the-variants.{Typed, Other, Done}
 use Rattle.request.specs.declared.FieldParts.{FieldParts}
-use Rattle.request.specs.declared.Piece.{Piece}
+use Rattle.request.specs.declared.Places.{Places}
 use Rattle.request.specs.declared.Reading.{Reading}
 use Rattle.request.specs.declared.Reading.the-variants.{Unreadable, Readable}
-
--- what stands before a cut, or everything where there is none
-abbrev pub before-cut : List ℕ → Option Cut → List ℕ
-before-cut s none = s
-before-cut s (some c) = c .before
 
 -- the head: its length is the place of the first CR LF CR LF, or the length where there is none
 unfoldable pub head-of : List ℕ → List ℕ
 unfolding first-cut
 head-of s = before-cut s (first-cut empty-line s)
-
--- the bytes from a to e
-abbrev pub part : List ℕ → ℕ → ℕ → List ℕ
-part s a e = take (e - a) (drop a s)
-
--- the first line, and those after it
-abbrev pub first-line : List (List ℕ) → List ℕ
-first-line [] = []
-first-line (l ∷ ls) = l
-
-abbrev pub later-lines : List (List ℕ) → List (List ℕ)
-later-lines [] = []
-later-lines (l ∷ ls) = ls
 
 -- a head's fields with their folds
 unfoldable pub field-lines : List ℕ → List (List ℕ)
@@ -69,10 +48,19 @@ line-colons at (l ∷ ls) = (at + colon-in l) ∷ line-colons (at + length l + 2
 
 -- ---- the answer of reading
 
--- where method, URI and head end, and how many fields there are
+-- where method, URI and head end, how many fields there are, and where body lines begin: behind the head's CR LF CR LF
+abbrev pub places-of : List ℕ → Request → Places
+places-of h q = record {
+  method = length (q .method);
+  uri = length (q .method) + 1 + length (q .uri);
+  head = length h;
+  fields = length (q .fields);
+  lines = length h + 4;
+}
+
 abbrev pub reading : List ℕ → Option Request → Reading
 reading h none = Unreadable
-reading h (some q) = Readable (length (q .method)) (length (q .method) + 1 + length (q .uri)) (length h) (length (q .fields))
+reading h (some q) = Readable (places-of h q)
 
 -- where the lines of the fields start, and where their colons stand; nothing is written where the request is unreadable
 abbrev pub starts-of : List ℕ → Option Request → List ℕ
@@ -83,10 +71,6 @@ abbrev pub colons-of : List ℕ → Option Request → List ℕ
 colons-of h none = []
 colons-of h (some q) = line-colons (fields-start h) (field-lines h)
 
--- what stands in lent places once w is written to their front
-abbrev pub over : List ℕ → List ℕ → List ℕ
-over w d = w ++ drop (length w) d
-
 -- room for a place of each field, of which every one takes at least four bytes; one longer than 65,535 bytes is not read
 pub record Room (s places : List ℕ) : Type 0 where
   pub enough : length s ≤ 65535 → length s ≤ 4 * length places
@@ -95,6 +79,29 @@ pub record Read (s starts colons starts′ colons′ : List ℕ) (r : Reading) :
   pub answer : r ≡ reading (head-of s) (read-request s)
   pub starts-are : starts′ ≡ over (starts-of (head-of s) (read-request s)) starts
   pub colons-are : colons′ ≡ over (colons-of (head-of s) (read-request s)) colons
+
+-- ---- a request that was read
+
+-- the bytes are readable, and the places are those that `read` gave and wrote
+pub record Placed (s starts colons : List ℕ) (p : Places) : Type 0 where
+  pub read : Readable p ≡ reading (head-of s) (read-request s)
+  pub starts-are : take (p .fields) starts ≡ starts-of (head-of s) (read-request s)
+  pub colons-are : take (p .fields) colons ≡ colons-of (head-of s) (read-request s)
+
+-- rooms for the fields' places and a value of a request; one longer than 65,535 bytes is not read
+pub record Rooms (s starts colons room : List ℕ) : Type 0 where
+  pub for-starts : Room s starts
+  pub for-colons : Room s colons
+  pub for-room : length s ≤ 65535 → length s ≤ length room
+
+abbrev pub or-blank : Option Request → Request
+or-blank none = record { method = []; uri = []; fields = []; body = [] }
+or-blank (some q) = q
+
+-- the request that is read from bytes, or one with nothing in it where they are unreadable
+unfoldable pub request-of : List ℕ → Request
+unfolding read-request
+request-of s = or-blank (read-request s)
 
 -- ---- one field
 
@@ -111,49 +118,3 @@ parts-of at l = record {
 unfoldable pub field-parts : List ℕ → ℕ → FieldParts
 unfolding field-lines line-starts colon-in trim-right
 field-parts h i = parts-of (getD (line-starts (fields-start h) (field-lines h)) i 0) (getD (field-lines h) i [])
-
--- the lent places hold what `read` wrote of the request s, and i is one of its fields
-pub record Indexed (s starts colons : List ℕ) (head fields i : ℕ) : Type 0 where
-  pub method : ℕ
-  pub uri : ℕ
-  pub read : Readable method uri head fields ≡ reading (head-of s) (read-request s)
-  pub starts-are : take fields starts ≡ starts-of (head-of s) (read-request s)
-  pub colons-are : take fields colons ≡ colons-of (head-of s) (read-request s)
-  pub inside : i < fields
-
--- ---- values
-
--- the values of a reduced value from a place on; none past its end
-unfoldable pub values-from : List ℕ → ℕ → List (List ℕ)
-unfolding cut-by trim-left trim-right
-values-from v p = map trim (pick (leb p (length v)) (pieces (drop p v)) [])
-
--- a piece t at p, trimmed; the next one starts past the comma
-abbrev pub trimmed-at : ℕ → List ℕ → Piece
-trimmed-at p t = record { start = p + (length (trim-right t) - length (trim t)); end = p + length (trim-right t); next = p + length t + 1 }
-
--- the first piece from a place on
-unfoldable pub piece-at : List ℕ → ℕ → Piece
-unfolding cut-by trim-left trim-right
-piece-at v p = trimmed-at p (first-line (pieces (drop p v)))
-
--- ---- lines of a body
-
--- the places of a line l at p that is a field, as `line` has it
-abbrev pub line-places : ℕ → List ℕ → ℕ → BodyLine
-line-places p [] next = Other next
-line-places p (t ∷ []) next = Other next
-line-places p (t ∷ e ∷ v) next = pick (eqb e 61) (Typed p (p + 2) (p + 2 + length v) next) (Other next)
-
--- the line at a place; none past the end
-unfoldable pub body-line : List ℕ → ℕ → BodyLine
-unfolding cut-by ended
-body-line b p =
-    pick (leb p (length b))
-    (line-places p (first-line (ended (cut-at 10 (drop p b)))) (p + length (first-line (cut-at 10 (drop p b))) + 1))
-    Done
-
--- the lines that are fields, from a place on; none past the end
-unfoldable pub session-from : List ℕ → ℕ → List Line
-unfolding cut-by ended
-session-from b p = pick (leb p (length b)) (lines (ended (cut-at 10 (drop p b)))) []

@@ -8,8 +8,10 @@ use lib.Dec.{leb, eqb}
 use Rattle.octets.specs.Lists.{text, every, some-of, only, empty, pick, peek, agree}
 use Rattle.octets.specs.Option.{_>>=_, holds}
 use Rattle.octets.specs.Bytes.{within, same-any-case, token, white, uri-byte}
-use Rattle.request.specs.Cutting.{first-cut, cut-by, cut-at}
-use Rattle.request.specs.Values.{trim-right, reduced, values-of}
+use Rattle.cuts.specs.Cutting.{first-cut, cut-by, cut-at}
+use Rattle.cuts.specs.Trimming.{trim-right}
+use Rattle.contents.specs.Body.{Line, session-lines}
+use Rattle.contents.specs.Values.{reduced, name-as-matched, values-of}
 
 -- a field: its name, and the values it is cut into
 pub record Field : Type 0 where
@@ -84,10 +86,6 @@ unfoldable pub whole-fields : List (List ℕ) → List (List ℕ)
 whole-fields [] = []
 whole-fields (l ∷ ls) = let later : List (List ℕ) = whole-fields ls in pick (continues ls) (attach l later) (l ∷ later)
 
--- "Names are taken as written."
-abbrev pub name-as-matched : List ℕ → List ℕ
-name-as-matched written = written
-
 -- "name token, any SP or HTAB, colon (these on one line), value": a fold before the colon would stand in the name
 abbrev pub field : List ℕ → Option Field
 field l = do
@@ -129,3 +127,8 @@ read-request s = do
   c ← first-cut empty-line s
   _ ← holds (bytes-right (c .before))
   head (head-lines (c .before)) (c .after)
+
+-- the lines that a session description row is held against
+unfoldable pub request-lines : Request → List Line
+unfolding session-lines
+request-lines q = session-lines (q .body)

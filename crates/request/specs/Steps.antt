@@ -1,41 +1,26 @@
 -- What the contracts of private functions say: the steps on the way to an answer.
-use mathlib.Core.Bool.{Bool, true, false, _&&_}
+use mathlib.Core.Bool.{Bool, true, false, not, _&&_}
 use mathlib.Core.Option.{Option, none, some}
 use mathlib.Core.Path.{_≡_}
-use mathlib.Core.List.{List, [], _∷_, _++_}
+use mathlib.Core.List.{List, [], _++_, _∷_}
 use Prim.Native.Nat.{ℕ, _+_, _*_, _≤_, _<_}
-use lib.ListN.{length, drop}
-use lib.Dec.{T, leb, ltb}
+use lib.ListN.{length, drop, getD}
+use lib.Dec.{T, leb}
+use Rattle.octets.specs.Bytes.{token-byte, uri-byte, white}
 use Rattle.octets.specs.Lists.{pick, every}
-use Rattle.request.specs.Body.{drop-cr}
-use Rattle.request.specs.Cutting.{begins, cut-by}
-use Rattle.request.specs.Places.{head-of, fields-start, line-starts, line-colons}
-use Rattle.request.specs.Request.{paired, bytes-right, head-lines, Start, whole-fields, field, Request}
-use Rattle.request.specs.Values.{Mode, plain, quoted, escaped, angle}
-use Rattle.request.specs.declared.head_bytes.HeadPlace.{HeadPlace}
-use Rattle.request.specs.declared.head_bytes.HeadPlace.the-variants.{Wrong, Ends}
+use Rattle.cuts.specs.Cutting.{cut-by, begins}
+use Rattle.request.specs.Places.{fields-start, line-starts, line-colons}
+use Rattle.request.specs.Request.{paired, head-lines, Start, whole-fields, field, Request}
 use Rattle.request.specs.declared.Judged.{Judged}
 use Rattle.request.specs.declared.Judged.the-variants.{Refused, Accepted}
 use Rattle.request.specs.declared.start_lines.StartLine.{StartLine}
 use Rattle.request.specs.declared.start_lines.StartLine.the-variants.{Bad, Good}
-use Rattle.request.specs.declared.pieces.Within.{Within}
-use Rattle.request.specs.declared.pieces.Within.the-variants.{Text, Quotes, Escape, Angles}
-
--- ---- the head
-
--- how many bytes of a head start here with one below 32: HTAB, or CR LF; 0 for any other, which is refused
-abbrev pub control-size : List ℕ → ℕ
-control-size s = pick (begins (9 ∷ []) s) 1 (pick (begins (13 ∷ 10 ∷ []) s) 2 0)
-
--- an empty line ends the head, and its bytes are right
-abbrev pub ends-right : List ℕ → Bool
-ends-right s = ltb (length (head-of s)) (length s) && bytes-right (head-of s)
-
--- where it ends then
-abbrev pub head-place : List ℕ → HeadPlace
-head-place s = pick (ends-right s) (Ends (length (head-of s))) Wrong
 
 -- ---- the start line
+
+-- a byte of a URI, or else of a token
+abbrev pub word-byte : Bool → ℕ → Bool
+word-byte uri b = pick uri (uri-byte b) (token-byte b)
 
 -- where the method and the URI of a start line end
 abbrev pub start-places : Option Start → StartLine
@@ -43,6 +28,10 @@ start-places none = Bad
 start-places (some t) = Good (length (t .method)) (length (t .method) + 1 + length (t .uri))
 
 -- ---- the lines of the head
+
+-- a field's line ends here: CR LF that no SP or HTAB follows
+abbrev pub line-break : List ℕ → Bool
+line-break s = begins (13 ∷ 10 ∷ []) s && not (white (getD s 2 0))
 
 -- something was read
 abbrev pub is-some {ℓ} : {A : Type ℓ} → Option A → Bool
@@ -77,16 +66,3 @@ pub record Filled (h : List ℕ) (from : ℕ) (starts colons starts′ colons′
   pub count : n ≡ length (lines-from h from)
   pub starts-are : starts′ ≡ line-starts from (lines-from h from) ++ drop n starts
   pub colons-are : colons′ ≡ line-colons from (lines-from h from) ++ drop n colons
-
--- ---- values and body lines
-
--- where a byte stands, in the code's words
-abbrev pub mode-of : Within → Mode
-mode-of Text = plain
-mode-of Quotes = quoted
-mode-of Escape = escaped
-mode-of Angles = angle
-
--- a line without the CR before its LF, if an LF ends it
-abbrev pub ended-line : Bool → List ℕ → List ℕ
-ended-line at-lf l = pick at-lf (drop-cr l) l

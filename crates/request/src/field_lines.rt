@@ -3,47 +3,23 @@ ghost use mathlib.Core.Path.{_≡_};
 ghost use Prim.Native.Nat.{_+_, _≤_, _<_};
 ghost use lib.Dec.{T};
 ghost use lib.ListN.{length, drop};
-ghost use Rattle.octets.specs.Bytes.{white, Classes};
+ghost use Rattle.octets.specs.Bytes.{Classes};
 ghost use Rattle.octets.specs.Lists.{every};
+ghost use Rattle.cuts.specs.Searching.{first};
 ghost use Rattle.request.specs.Request.{paired};
-ghost use Rattle.request.specs.Searching.{first, line-break};
-ghost use Rattle.request.specs.Steps.{is-field, lines-from};
-ghost use Rattle.request.specs.Values.{trim-right};
+ghost use Rattle.request.specs.Steps.{line-break, is-field, lines-from};
 use crate::start_lines::is_word;
-use crate::start_lines::place_of;
-
-// SP or HTAB.
-pub(crate) fn is_white(b: u8) -> bool
-    ensures { λ r. ⌜ r ≡ white b ⌝ }
-{
-    (b == 32) | (b == 9)
-}
-
-// How many bytes are left of t without SP and HTAB at its right end.
-pub(crate) fn trimmed_end(t: &[u8]) -> usize
-    ensures { λ r. ⌜ r ≡ length (trim-right (now (t .entry))) ⌝ }
-{
-    let mut e = t.len();
-    while 0 < e {
-        let b = t[e - 1];
-        if !is_white(b) {
-            return e;
-        }
-        e -= 1;
-    }
-    e
-}
 
 // Whether a line with its folds is a field: name token, any SP or HTAB, colon, value.
 fn is_field(table: &[u8; 256], l: &[u8]) -> bool
     requires { ⌜ Classes (now table) ⌝ }
     ensures { λ r. ⌜ r ≡ is-field (now (l .entry)) ⌝ }
 {
-    let k = place_of(l, 0, 58);
+    let k = cuts::place_of(l, 0, 58);
     if l.len() <= k {
         return false;
     }
-    let n = trimmed_end(&l[0..k]);
+    let n = cuts::trimmed_end(&l[0..k]);
     is_word(table, false, &l[0..n])
 }
 
@@ -58,7 +34,7 @@ fn line_break_at(h: &[u8], i: usize) -> bool
     if octets::byte_at(h, i + 1) != 10 {
         return false;
     }
-    if is_white(octets::byte_at(h, i + 2)) {
+    if cuts::is_white(octets::byte_at(h, i + 2)) {
         return false;
     }
     true
@@ -69,12 +45,12 @@ pub(crate) fn line_end(h: &[u8], from: usize) -> usize
     requires { ⌜ from ≤ length (now h) ⌝ }
     ensures { λ r. ⌜ r ≡ from + first line-break (drop from (now (h .entry))) ⌝ }
 {
-    let mut k = place_of(h, from, 13);
+    let mut k = cuts::place_of(h, from, 13);
     while k < h.len() {
         if line_break_at(h, k) {
             return k;
         }
-        k = place_of(h, k + 1, 13);
+        k = cuts::place_of(h, k + 1, 13);
     }
     k
 }

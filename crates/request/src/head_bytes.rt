@@ -1,76 +1,29 @@
-// The head of a request: where it ends, and whether its bytes may stand there.
+// The bytes of a head.
 ghost use mathlib.Core.Path.{_≡_};
-ghost use Prim.Native.Nat.{_<_};
-ghost use lib.ListN.{length, drop};
-ghost use Rattle.request.specs.Cutting.{begins};
-ghost use Rattle.request.specs.Request.{empty-line};
-ghost use Rattle.request.specs.Steps.{control-size, head-place};
+ghost use Rattle.request.specs.Request.{bytes-right};
 
-// Where the head ends, if an empty line ends it and its bytes are right.
-pub(crate) enum HeadPlace {
-    Wrong,
-    Ends { at: usize },
-}
-
-// Whether CR LF CR LF stands at i.
-fn empty_line_at(s: &[u8], i: usize) -> bool
-    requires { ⌜ i < length (now s) ⌝ }
-    ensures { λ r. ⌜ r ≡ begins empty-line (drop i (now (s .entry))) ⌝ }
-{
-    if s[i] != 13 {
-        return false;
-    }
-    if octets::byte_at(s, i + 1) != 10 {
-        return false;
-    }
-    if octets::byte_at(s, i + 2) != 13 {
-        return false;
-    }
-    if octets::byte_at(s, i + 3) != 10 {
-        return false;
-    }
-    true
-}
-
-// How many bytes of a head start with the one below 32 at i: HTAB, or CR LF; 0 for any other, which is refused.
-fn control_size(s: &[u8], i: usize) -> usize
-    requires { ⌜ i < length (now s) ⌝ }
-    ensures { λ r. ⌜ r ≡ control-size (drop i (now (s .entry))) ⌝ }
-{
-    let b = s[i];
-    if b == 9 {
-        return 1;
-    }
-    if b != 13 {
-        return 0;
-    }
-    if octets::byte_at(s, i + 1) != 10 {
-        return 0;
-    }
-    2
-}
-
-pub(crate) fn head_place(s: &[u8]) -> HeadPlace
-    ensures { λ r. ⌜ r ≡ head-place (now (s .entry)) ⌝ }
+// Whether CR and LF stand only as pairs, and no other byte below 32 except HTAB, nor 127. Most bytes are 32..126, so they are tested first.
+pub(crate) fn bytes_right(h: &[u8]) -> bool
+    ensures { λ r. ⌜ r ≡ bytes-right (now (h .entry)) ⌝ }
 {
     let mut i: usize = 0;
-    while i < s.len() {
-        let b = s[i];
-        if b < 32 {
-            if empty_line_at(s, i) {
-                return HeadPlace::Ends { at: i };
-            }
-            let k = control_size(s, i);
-            if k == 0 {
-                return HeadPlace::Wrong;
-            }
-            i += k;
-        } else {
-            if b == 127 {
-                return HeadPlace::Wrong;
-            }
+    while i < h.len() {
+        let b = h[i];
+        if (32 <= b) & (b <= 126) {
             i += 1;
+        } else {
+            if b == 13 {
+                if octets::byte_at(h, i + 1) != 10 {
+                    return false;
+                }
+                i += 2;
+            } else {
+                if !((b == 9) | (128 <= b)) {
+                    return false;
+                }
+                i += 1;
+            }
         }
     }
-    HeadPlace::Wrong
+    true
 }

@@ -1,32 +1,25 @@
-// The SIP request: readable or not, its start line, fields, values and body lines. The definitions stand in specs/.
+// The SIP request: readable or not, its start line and its fields. What stands in a field's value and in the body is read by `contents`.
+// The definitions stand in specs/.
 ghost use mathlib.Core.Path.{_≡_};
 ghost use mathlib.Core.List.{[]};
 ghost use Prim.Native.Nat.{_+_, _-_, _≤_, _<_};
 ghost use lib.Dec.{T, ltb};
 ghost use lib.ListN.{length, getD};
 ghost use Rattle.octets.specs.Lists.{pick};
-ghost use Rattle.request.specs.Places.{head-of, Room, Read, field-parts, Indexed};
-ghost use Rattle.request.specs.Request.{paired, head-lines, name-as-matched, head, read-request};
+ghost use Rattle.request.specs.Places.{head-of, Room, Read, Placed, field-parts};
+ghost use Rattle.request.specs.Request.{paired, head-lines, head, read-request};
 ghost use Rattle.request.specs.Steps.{judged, Fillable, Filled};
 
-mod body_lines;
 mod field_lines;
 mod head_bytes;
-mod pieces;
+mod head_ends;
 mod start_lines;
 
-pub use crate::body_lines::next_line;
 use crate::field_lines::are_fields;
-use crate::field_lines::is_white;
 use crate::field_lines::line_end;
-use crate::field_lines::trimmed_end;
-use crate::head_bytes::HeadPlace;
-use crate::head_bytes::head_place;
-pub use crate::pieces::never_cut;
-pub use crate::pieces::next_value;
-pub use crate::pieces::normalise;
+use crate::head_bytes::bytes_right;
+use crate::head_ends::head_end;
 use crate::start_lines::StartLine;
-use crate::start_lines::place_of;
 use crate::start_lines::start_line;
 
 // ---- the request
@@ -47,9 +40,9 @@ fn judge_lines(h: &[u8]) -> Judged
     requires { ⌜ (length (now h) ≤ 65535) × T (paired 0 (now h)) ⌝ }
     ensures { λ r. ⌜ r ≡ judged (now (h .entry)) (head (head-lines (now (h .entry))) []) ⌝ }
 {
-    let n = place_of(h, 0, 13);
+    let n = cuts::place_of(h, 0, 13);
     // "none may follow the start line directly" (document 01): no line that continues it
-    if is_white(octets::byte_at(h, n + 2)) {
+    if cuts::is_white(octets::byte_at(h, n + 2)) {
         return Judged::Refused;
     }
     match start_line(&h[0..n]) {
@@ -75,10 +68,14 @@ fn judge(s: &[u8]) -> Judged
     if 65535 < s.len() {
         return Judged::Refused;
     }
-    match head_place(s) {
-        HeadPlace::Wrong => Judged::Refused,
-        HeadPlace::Ends { at } => judge_lines(&s[0..at]),
+    let at = head_end(s);
+    if s.len() <= at {
+        return Judged::Refused;
     }
+    if !bytes_right(&s[0..at]) {
+        return Judged::Refused;
+    }
+    judge_lines(&s[0..at])
 }
 
 // Writes where each line from a place on starts, and where its colon stands, to the front of the lent places. All of them are fields. It
@@ -91,7 +88,7 @@ fn fill(h: &[u8], from: usize, starts: &mut [u16], colons: &mut [u16]) -> usize
     let mut n: usize = 0;
     while p <= h.len() {
         let e = line_end(h, p);
-        let k = place_of(&h[p..e], 0, 58);
+        let k = cuts::place_of(&h[p..e], 0, 58);
         starts[n] = p as u16;
         colons[n] = (p + k) as u16;
         n += 1;
@@ -100,15 +97,20 @@ fn fill(h: &[u8], from: usize, starts: &mut [u16], colons: &mut [u16]) -> usize
     n
 }
 
-// What is read: where the method, the URI and the head end, and how many fields there are. The body starts four bytes after the head's end.
+// Where the parts of a readable request stand: where its method, its URI and its head end, how many fields it has, and where its body
+// lines begin.
+pub struct Places {
+    pub method: usize,
+    pub uri: usize,
+    pub head: usize,
+    pub fields: usize,
+    pub lines: usize,
+}
+
+// What is read.
 pub enum Reading {
     Unreadable,
-    Readable {
-        method: usize,
-        uri: usize,
-        head: usize,
-        fields: usize,
-    },
+    Readable(Places),
 }
 
 // Reads a request. The places of each field's line and of its colon go to the front of the lent places, which are at least a quarter as
@@ -126,12 +128,13 @@ pub fn read(s: &[u8], starts: &mut [u16], colons: &mut [u16]) -> Reading
             fields,
         } => {
             let n = fill(&s[0..head], fields, starts, colons);
-            Reading::Readable {
-                method: method,
-                uri: uri,
-                head: head,
+            Reading::Readable(Places {
+                method,
+                uri,
+                head,
                 fields: n,
-            }
+                lines: head + 4,
+            })
         }
     }
 }
@@ -158,54 +161,18 @@ pub struct FieldParts {
 }
 
 // Field i of a request, from the places that `read` wrote: no line is looked for again.
-pub fn field_at(
-    s: &[u8],
-    starts: &[u16],
-    colons: &[u16],
-    head: usize,
-    fields: usize,
-    i: usize,
-) -> FieldParts
-    requires { ⌜ Indexed (now s) (now starts) (now colons) head fields i ⌝ }
+pub fn field_at(s: &[u8], starts: &[u16], colons: &[u16], places: Places, i: usize) -> FieldParts
+    requires { ⌜ Placed (now s) (now starts) (now colons) places × (i < places .fields) ⌝ }
     ensures { λ r. ⌜ r ≡ field-parts (head-of (now (s .entry))) i ⌝ }
 {
     let a = octets::as_index(starts[i]);
     let k = octets::as_index(colons[i]);
-    let n = trimmed_end(&s[a..k]);
-    let e = field_end(starts, head, fields, i);
+    let n = cuts::trimmed_end(&s[a..k]);
+    let e = field_end(starts, places.head, places.fields, i);
     FieldParts {
         name: a,
         stop: a + n,
         value: k + 1,
         end: e,
     }
-}
-
-// The name of a field as it is matched. Whoever matches a name takes it from here. Change request 1, the long forms of compact names, moves
-// the definition; a function cannot return a byte string of its own, so its callers will then match such a name themselves.
-pub fn name_of(written: &[u8]) -> &[u8]
-    ensures { λ r. ⌜ now r ≡ name-as-matched (now (written .entry)) ⌝ }
-{
-    written
-}
-
-// A piece of a value, trimmed: it stands from start to end; the next one is to be looked for at next, if that is not past the value's end.
-pub struct Piece {
-    pub start: usize,
-    pub end: usize,
-    pub next: usize,
-}
-
-// A line of a body. One that is a field has its type, a byte, at start, and its value from value to end. The next line starts at next.
-pub enum BodyLine {
-    Typed {
-        start: usize,
-        value: usize,
-        end: usize,
-        next: usize,
-    },
-    Other {
-        next: usize,
-    },
-    Done,
 }

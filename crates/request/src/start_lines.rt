@@ -1,37 +1,18 @@
 // The start line: method, URI, version.
 ghost use mathlib.Core.Path.{_≡_};
 ghost use mathlib.Core.Bool.{not, _&&_};
-ghost use mathlib.Core.List.{_∷_, []};
-ghost use Prim.Native.Nat.{_+_, _≤_, _<_};
+ghost use Prim.Native.Nat.{_+_, _<_};
 ghost use lib.ListN.{length, take, drop};
 ghost use Rattle.octets.specs.Bytes.{Classes};
 ghost use Rattle.octets.specs.Lists.{every, empty};
-ghost use Rattle.request.specs.Cutting.{begins};
-ghost use Rattle.request.specs.Places.{part};
+ghost use Rattle.cuts.specs.Parts.{part};
 ghost use Rattle.request.specs.Request.{start-line, parts-right};
-ghost use Rattle.request.specs.Searching.{first, word-byte};
-ghost use Rattle.request.specs.Steps.{start-places};
+ghost use Rattle.request.specs.Steps.{word-byte, start-places};
 
 // A start line: where its method ends and where its URI ends.
 pub(crate) enum StartLine {
     Bad,
     Good { method: usize, uri: usize },
-}
-
-// The place of the first byte b from a place on, or the length where there is none.
-pub(crate) fn place_of(s: &[u8], from: usize, b: u8) -> usize
-    requires { ⌜ from ≤ length (now s) ⌝ }
-    ensures { λ r. ⌜ r ≡ from + first (begins (b ∷ [])) (drop from (now (s .entry))) ⌝ }
-{
-    let mut i = from;
-    while i < s.len() {
-        let x = s[i];
-        if x == b {
-            return i;
-        }
-        i += 1;
-    }
-    i
 }
 
 // A byte of a URI, or else of a token.
@@ -83,11 +64,11 @@ fn start_parts_right(l: &[u8], m: usize, u: usize) -> bool
 pub(crate) fn start_line(l: &[u8]) -> StartLine
     ensures { λ r. ⌜ r ≡ start-places (start-line (now (l .entry))) ⌝ }
 {
-    let m = place_of(l, 0, 32);
+    let m = cuts::place_of(l, 0, 32);
     if l.len() <= m {
         return StartLine::Bad;
     }
-    let u = place_of(l, m + 1, 32);
+    let u = cuts::place_of(l, m + 1, 32);
     if l.len() <= u {
         return StartLine::Bad;
     }

@@ -18,7 +18,8 @@ use Rattle.request.specs.Request.{Request, read-request}
 use Rattle.request.proofs.Few.{Small, request-small}
 use Rattle.session.specs.Session.{possible, ready}
 use Rattle.session.specs.declared.Session.{Session}
-use Rattle.rows.specs.Rows.{Given, REGISTER}
+use Rattle.rows.specs.Rows.{REGISTER}
+use Rattle.rows.specs.declared.Given.{Given}
 use Rattle.fitting.specs.Fitting.{criterion-fits, criterion-trials}
 use Rattle.fitting.proofs.Trials.{all-below}
 use Rattle.order.specs.Order.{Numbered, numbered, candidates, above-last, least, up-to}

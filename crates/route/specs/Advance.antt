@@ -10,9 +10,10 @@ use Rattle.octets.specs.Lists.{pick, total, same}
 use Rattle.profile.specs.Image.{Criterion, Profile, Judged, accepted, refused}
 use Rattle.profile.specs.Judging.{judge}
 use Rattle.request.specs.Request.{Request, read-request}
-use Rattle.session.specs.Session.{ready, waiting, finished, possible, with-state}
+use Rattle.session.specs.Session.{ready, finished, possible, with-state, forwarded-to}
 use Rattle.session.specs.declared.Session.{Session}
-use Rattle.rows.specs.Rows.{Given, REGISTER}
+use Rattle.rows.specs.Rows.{REGISTER}
+use Rattle.rows.specs.declared.Given.{Given}
 use Rattle.fitting.specs.Fitting.{criterion-fits, criterion-trials}
 use Rattle.order.specs.Order.{Numbered, priority, candidates, least, up-to}
 use Rattle.route.specs.declared.Advanced.{Advanced}
@@ -33,7 +34,7 @@ forward-of x number priority handling examined trials = record {
   priority = priority;
   examined = examined;
   trials = trials;
-  session = record { case = x .case; state = waiting; forwarded = 1; last = priority; handling = handling };
+  session = forwarded-to x priority handling;
 }
 
 -- of a criterion

@@ -5,18 +5,18 @@ use mathlib.Core.List.{List}
 use Prim.Native.Nat.{ℕ, _+_, _≤_, _<_}
 use native.Mathlib.Omega.{arith}
 use lib.ListN.{length, drop, drop-of-length-le}
-use Rattle.request.specs.Places.{head-of, part, field-parts}
-use Rattle.request.specs.Request.{Field, name-as-matched}
-use Rattle.request.specs.Values.{reduced, values-of}
+use Rattle.cuts.specs.Parts.{part}
+use Rattle.cuts.proofs.Parts.{length-part}
+use Rattle.contents.specs.Values.{reduced, name-as-matched, values-of}
+use Rattle.request.specs.Places.{head-of, field-parts, request-of, Placed}
+use Rattle.request.specs.Request.{Field}
 use Rattle.request.specs.declared.FieldParts.{FieldParts}
 use Rattle.request.proofs.Indexing.{FieldSays}
-use Rattle.request.proofs.Parts.{length-part}
-use Rattle.rows.specs.Tried.{request-of, Placed}
 use Rattle.rows.specs.Trying.{item-row, field-row, all-rows}
-use Rattle.rows.specs.declared.Places.{Places}
+use Rattle.request.specs.declared.Places.{Places}
 use Rattle.rows.specs.declared.Verdict.{Verdict}
 use Rattle.rows.proofs.Items.{fields-le}
-use Rattle.rows.proofs.Requests.{request-of-small, fields-many, field-said, short, body-inside}
+use Rattle.request.proofs.Readings.{request-of-small, fields-many, field-said, short, head-inside}
 use Rattle.rows.proofs.Sweep.{Swept, swept-first, swept-next, swept-end}
 
 -- the fields before i are tried
@@ -45,7 +45,7 @@ module _ (s starts colons : List ℕ) (p : Places) (k : Placed s starts colons p
     said = field-said s starts colons p k i more f ef
 
     inside : f .end ≤ length s
-    inside = omega (arith, said .inside, body-inside s starts colons p k)
+    inside = omega (arith, said .inside, head-inside s starts colons p k)
 
     pub name-order : f .name ≤ f .stop
     name-order = omega (arith, said .name-order)

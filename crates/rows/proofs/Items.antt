@@ -10,9 +10,8 @@ use borrow.Author.Tests.{not-true, not-false}
 use Rattle.octets.specs.Lists.{pick, total}
 use Rattle.octets.proofs.Kept.{total-mono, total-const}
 use Rattle.pattern.specs.Answers.{meets-text}
-use Rattle.request.specs.Body.{Line}
-use Rattle.request.specs.Request.{Field, name-as-matched}
-use Rattle.request.specs.Values.{reduced, values-of}
+use Rattle.contents.specs.Body.{Line}
+use Rattle.request.specs.Request.{Field}
 use Rattle.request.proofs.Few.{weight}
 use Rattle.rows.specs.Trying.{values-row, named-row, item-row, field-row, line-row}
 use Rattle.rows.specs.declared.Verdict.{Verdict}
@@ -47,27 +46,6 @@ module _ (h : List ℕ) (with : Bool) (c name value : List ℕ) (m : Bool) (em :
   item-one w v ev =
       item-with false h with c name (value ∷ []) m em k w (record { fits = v; trials = 1 })
       (ap (λ (b : Bool). record { fits = b; trials = 1 }) (ev ∙ sym (or-false (meets-text false c value))))
-
--- ---- a field by its name as it is matched
-
-module _ (written name : List ℕ) (en : name ≡ name-as-matched written) (h : List ℕ) (with : Bool) (c raw : List ℕ) (m : Bool) (em : m ≡ meets-text true h name) where
-  abbrev there : Verdict
-  there = item-row true h with c (name-as-matched written) (values-of (name-as-matched written) (reduced raw))
-
-  moved : m ≡ meets-text true h (name-as-matched written)
-  moved = em ∙ ap (meets-text true h) en
-
-  pub field-no : not m ≡ true → _≡_ {A = Verdict} (record { fits = false; trials = 1 }) there
-  field-no k = item-no true h with c (name-as-matched written) (values-of (name-as-matched written) (reduced raw)) m moved k
-
-  pub field-bare : not m ≡ false → not with ≡ true → _≡_ {A = Verdict} (record { fits = true; trials = 1 }) there
-  field-bare k w = item-bare true h with c (name-as-matched written) (values-of (name-as-matched written) (reduced raw)) m moved k w
-
-  pub field-with : not m ≡ false → not with ≡ false → (v : Verdict) → v ≡ values-row c (values-of name (reduced raw))
-      → _≡_ {A = Verdict} (record { fits = v .fits; trials = 1 + v .trials }) there
-  field-with k w v ev =
-      item-with true h with c (name-as-matched written) (values-of (name-as-matched written) (reduced raw)) m moved k w v
-      (ev ∙ ap (λ (l : List ℕ). values-row c (values-of l (reduced raw))) en)
 
 -- ---- how many trials
 

@@ -2,10 +2,8 @@ pub mod ByKind
 pub mod Fielding
 pub mod Items
 pub mod Lining
-pub mod Matching
 pub mod Methods
 pub mod Patterns
-pub mod Requests
 pub mod Sweep
 pub mod Trials
 pub mod Values

@@ -5,12 +5,13 @@ use mathlib.Core.List.{List, [], _∷_}
 use Prim.Native.Nat.{ℕ, _+_, _-_, _≤_, _<_}
 use native.Mathlib.Omega.{arith}
 use lib.ListN.{length}
-use Rattle.request.specs.Body.{Line, session-lines}
-use Rattle.request.specs.Places.{part, body-line, session-from}
-use Rattle.request.specs.declared.BodyLine.{BodyLine}
-use Rattle.request.specs.declared.BodyLine.the-variants.{Typed, Other, Done}
-use Rattle.request.proofs.BodyLines.{TypedAt, OtherAt, LineSays, line-says, session-start}
-use Rattle.request.proofs.Small.{session-lines-length}
+use Rattle.cuts.specs.Parts.{part}
+use Rattle.contents.specs.Body.{Line, session-lines}
+use Rattle.contents.specs.Places.{body-line, session-from}
+use Rattle.contents.specs.declared.BodyLine.{BodyLine}
+use Rattle.contents.specs.declared.BodyLine.the-variants.{Typed, Other, Done}
+use Rattle.contents.proofs.BodyLines.{TypedAt, OtherAt, LineSays, line-says, session-start}
+use Rattle.contents.proofs.Small.{session-lines-length}
 use Rattle.rows.specs.Trying.{item-row, line-row, all-rows}
 use Rattle.rows.specs.declared.Verdict.{Verdict}
 use Rattle.rows.proofs.Items.{lines-le}

@@ -7,11 +7,11 @@ use Prim.Native.Nat.{ℕ}
 use native.Mathlib.Omega.{arith}
 use lib.ListN.{length}
 use Rattle.octets.specs.Lists.{pick, some-of, total}
-use Rattle.pattern.specs.Answers.{was-read, is-pattern, read-matches, meets-text}
-use Rattle.pattern.specs.Pattern.{Pattern}
-use Rattle.pattern.specs.Reading.{read-pattern}
+use Rattle.basic.specs.Reading.{was-read, is-pattern, read-pattern}
+use Rattle.pattern.specs.Answers.{read-matches, meets-text}
+use Rattle.basic.specs.Pattern.{Pattern}
 use Rattle.profile.specs.Decoded.{or-empty}
-use Rattle.request.specs.Body.{Line}
+use Rattle.contents.specs.Body.{Line}
 use Rattle.request.specs.Request.{Field}
 use Rattle.rows.specs.Rows.{field-fits, line-fits, field-trials, line-trials}
 use Rattle.rows.specs.Trying.{values-row, named-row, item-row, field-row, line-row, all-rows}

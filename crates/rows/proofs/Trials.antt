@@ -6,13 +6,12 @@ use native.Mathlib.Nat.{le-refl, le-trans}
 use native.Mathlib.Omega.{arith}
 use lib.ListN.{length}
 use Rattle.octets.proofs.Kept.{total-mono, total-const}
-use Rattle.pattern.specs.Pattern.{Pattern}
+use Rattle.basic.specs.Pattern.{Pattern}
 use Rattle.pattern.specs.Matching.{written-matches, name-matches}
 use Rattle.profile.specs.Image.{Test, request-uri, method, header, session-case, description, Row}
-use Rattle.request.specs.Request.{Request}
-use Rattle.request.specs.Body.{request-lines}
+use Rattle.contents.proofs.Small.{session-lines-length}
+use Rattle.request.specs.Request.{Request, request-lines}
 use Rattle.request.proofs.Few.{weight, Small}
-use Rattle.request.proofs.Small.{session-lines-length}
 use Rattle.rows.specs.Rows.{content-trials, field-trials, line-trials, test-trials, row-trials}
 
 content-le : (c : Option Pattern) (b : Bool) (n : ℕ) → content-trials c b n ≤ n

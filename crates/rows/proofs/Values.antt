@@ -8,11 +8,12 @@ use lib.ListN.{length, take}
 use Rattle.octets.specs.Lists.{some-of, total}
 use Rattle.octets.proofs.Kept.{total-const}
 use Rattle.pattern.specs.Answers.{meets-text}
-use Rattle.request.specs.Places.{part, over, values-from, piece-at}
-use Rattle.request.specs.Values.{reduced, never-cut, values-of}
-use Rattle.request.specs.declared.Piece.{Piece}
-use Rattle.request.proofs.Laws.{reduced-front}
-use Rattle.request.proofs.Values.{ValueAt, value-says, values-past, values-cut, values-whole}
+use Rattle.cuts.specs.Parts.{part, over}
+use Rattle.contents.specs.Places.{values-from, piece-at}
+use Rattle.contents.specs.Values.{reduced, never-cut, values-of}
+use Rattle.contents.specs.declared.Piece.{Piece}
+use Rattle.contents.proofs.Laws.{reduced-front}
+use Rattle.contents.proofs.Values.{ValueAt, value-says, values-past, values-cut, values-whole}
 use Rattle.rows.specs.Trying.{values-row}
 use Rattle.rows.specs.declared.Verdict.{Verdict}
 use Rattle.rows.proofs.Sweep.{Swept, swept-first, swept-next, swept-end}

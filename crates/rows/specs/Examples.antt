@@ -6,11 +6,12 @@ use Prim.Native.String.{String}
 use mathlib.Core.List.{List, [], _∷_}
 use lib.Dec.{T, eqb}
 use Rattle.octets.specs.Lists.{text, every, agree}
-use Rattle.pattern.specs.Pattern.{Pattern}
-use Rattle.pattern.specs.Reading.{read-pattern}
+use Rattle.basic.specs.Pattern.{Pattern}
+use Rattle.basic.specs.Reading.{read-pattern}
 use Rattle.profile.specs.Image.{Test, request-uri, method, header, session-case, description, Row}
 use Rattle.request.specs.Request.{Request, read-request}
-use Rattle.rows.specs.Rows.{Given, row-fits, row-trials}
+use Rattle.rows.specs.Rows.{row-fits, row-trials}
+use Rattle.rows.specs.declared.Given.{Given}
 
 -- a row's test, by its texts
 pub data Written : Type 0 where

@@ -7,16 +7,12 @@ use lib.ListN.{length}
 use lib.Dec.{eqb}
 use Rattle.octets.specs.Bits.{bit}
 use Rattle.octets.specs.Lists.{text, pick, some-of, total, same}
-use Rattle.pattern.specs.Pattern.{Pattern}
+use Rattle.basic.specs.Pattern.{Pattern}
 use Rattle.pattern.specs.Matching.{written-matches, name-matches}
 use Rattle.profile.specs.Image.{Test, request-uri, method, header, session-case, description, Row}
-use Rattle.request.specs.Request.{Request, Field}
-use Rattle.request.specs.Body.{Line, request-lines}
-
--- "The host gives the session case and registration type as numbers"
-pub record Given : Type 0 where
-  pub case : ℕ
-  pub registration : ℕ
+use Rattle.contents.specs.Body.{Line}
+use Rattle.request.specs.Request.{Request, Field, request-lines}
+use Rattle.rows.specs.declared.Given.{Given}
 
 -- the method that is listed instead of advanced
 abbrev pub REGISTER : List ℕ

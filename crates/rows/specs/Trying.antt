@@ -6,9 +6,10 @@ use lib.ListN.{length}
 use Rattle.octets.specs.Lists.{pick, some-of, total}
 use Rattle.pattern.specs.Answers.{meets-text}
 use Rattle.profile.specs.Image.{Test}
-use Rattle.request.specs.Body.{Line, request-lines}
-use Rattle.request.specs.Request.{Request, Field}
-use Rattle.rows.specs.Rows.{Given, test-fits, test-trials}
+use Rattle.contents.specs.Body.{Line}
+use Rattle.request.specs.Request.{request-lines, Request, Field}
+use Rattle.rows.specs.Rows.{test-fits, test-trials}
+use Rattle.rows.specs.declared.Given.{Given}
 use Rattle.rows.specs.declared.Verdict.{Verdict}
 
 -- a row that takes one trial

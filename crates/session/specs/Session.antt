@@ -57,6 +57,12 @@ unopened = record { case = 0; state = finished; forwarded = 0; last = 0; handlin
 unfoldable pub open-session : ℕ → Opened
 open-session case = pick (leb case 3) (record { refusal = 0; session = fresh case }) (record { refusal = 8; session = unopened })
 
+-- ---- a forward
+
+-- "forward .., session waiting": it holds that criterion's priority and default
+abbrev pub forwarded-to : Session → ℕ → ℕ → Session
+forwarded-to x priority handling = record { case = x .case; state = waiting; forwarded = 1; last = priority; handling = handling }
+
 -- ---- report
 
 -- only the state changes

@@ -1,6 +1,6 @@
 // The session: its record, which records a session can have, opening, and the report of what became of a forward.
 ghost use mathlib.Core.Path.{_≡_};
-ghost use Rattle.session.specs.Session.{possible, with-state, goes as goes-in, stays as stays-with, Opens, Reports};
+ghost use Rattle.session.specs.Session.{possible, with-state, forwarded-to, goes as goes-in, stays as stays-with, Opens, Reports};
 
 // Five numbers: case 0..3; state 0 ready, 1 waiting, 2 finished, 3 released, 4 ended; forwarded 1 if anything was, else 0; the
 // last priority; that criterion's default handling.
@@ -75,6 +75,19 @@ pub fn in_state(x: Session, state: u32) -> Session
         forwarded: x.forwarded,
         last: x.last,
         handling: x.handling,
+    }
+}
+
+// Waiting for a criterion's server: its priority and default are kept.
+pub fn forwarded_to(x: Session, priority: u32, handling: u32) -> Session
+    ensures { λ r. ⌜ r ≡ forwarded-to x priority handling ⌝ }
+{
+    Session {
+        case: x.case,
+        state: 1,
+        forwarded: 1,
+        last: priority,
+        handling,
     }
 }
 

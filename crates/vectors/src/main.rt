@@ -4,6 +4,7 @@
 use libc::STDOUT_FILENO;
 use octets::byte_at;
 use octets::same_bytes;
+use rows::Given;
 use session::Session;
 use std::num::wrapping_add_u32;
 use std::num::wrapping_add_usize as on;
@@ -184,7 +185,11 @@ fn report(n: [u32; 12]) -> [u32; 12] {
 }
 
 fn list(image: &[u8], request: &[u8], n: [u32; 12], into: &mut [u8]) -> [u32; 12] {
-    let a = listing::list(image, request, n[0], n[1], into);
+    let given = Given {
+        case: n[0],
+        registration: n[1],
+    };
+    let a = listing::list(image, request, given, into);
     [
         n[0],
         n[1],

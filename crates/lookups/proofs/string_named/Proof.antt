@@ -1,5 +1,5 @@
 use Rattle.octets.proofs.Choosing.{picks-first, picks-second}
-use Rattle.profile.specs.declared.Criterion.{Criterion}
+use Rattle.entries.specs.declared.Criterion.{Criterion}
 use mathlib.Core.Path.{ap}
 use borrow.Author.Needs.{needs}
 use Rattle.lookups.proofs.string_named.Statement.{statement}

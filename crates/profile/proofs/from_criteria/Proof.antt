@@ -1,6 +1,6 @@
 use Rattle.profile.proofs.ImageLaws.{crit-1, crit-2, crit-3, crit-4, laid-refused, laid-end}
 use native.Mathlib.Omega.{arith}
-use Rattle.profile.proofs.Laws.{is, counted-inv}
+use Rattle.cells.proofs.Laws.{is, counted-inv}
 use borrow.Author.Needs.{needs}
 use Rattle.profile.proofs.from_criteria.Statement.{statement}
 use Rattle.profile.proofs.from_criteria.Tie as tie
@@ -42,8 +42,14 @@ refusal-requires-2 c κs = search needs
 returns-2 : tie.Need-returns-2
 returns-2 c = (search crit-2, search laid-refused)
 
-add-t13 : tie.Need-add-t13
-add-t13 c = search needs
+byte-at-requires : tie.Need-byte-at-requires
+byte-at-requires c κs = search needs
+
+wide-requires : tie.Need-wide-requires
+wide-requires c κs = search needs
+
+add-t15 : tie.Need-add-t15
+add-t15 c = search needs
 
 returns-3 : tie.Need-returns-3
 returns-3 c = (search crit-3, search laid-end)
@@ -66,6 +72,8 @@ from-criteria-spec =
     enum-told-2
     refusal-requires-2
     returns-2
-    add-t13
+    byte-at-requires
+    wide-requires
+    add-t15
     returns-3
     returns-4)

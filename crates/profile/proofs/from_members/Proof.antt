@@ -1,7 +1,7 @@
 use Rattle.profile.proofs.ImageLaws.{mem-1, mem-2, mem-3, mem-4, counted-next, laid-refused, laid-on-members}
 use native.Mathlib.Omega.{arith}
 use denote.Ref.{now}
-use Rattle.profile.proofs.Laws.{is, counted-inv}
+use Rattle.cells.proofs.Laws.{is, counted-inv}
 use mathlib.Core.Path.{refl}
 use borrow.Author.Needs.{needs}
 use Rattle.profile.proofs.from_members.Statement.{statement}

@@ -1,8 +1,8 @@
 use Rattle.profile.proofs.ImageLaws.{rows-f, rows-g, rows-h, laid-refused, laid-on-rows}
-use Rattle.profile.proofs.Decode.{rows-are}
+use Rattle.entries.proofs.Decode.{rows-are}
 use native.Mathlib.Omega.{arith}
 use denote.Ref.{now}
-use Rattle.profile.proofs.Laws.{is, counted-inv}
+use Rattle.cells.proofs.Laws.{is, counted-inv}
 use borrow.Author.Needs.{needs}
 use Rattle.profile.proofs.from_rows.Statement.{statement}
 use Rattle.profile.proofs.from_rows.Tie as tie

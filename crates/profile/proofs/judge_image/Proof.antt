@@ -1,5 +1,5 @@
 use Rattle.profile.proofs.ImageLaws.{image-f, image-g, image-h, tabled-is, opening-inv, laid-whole-refused, laid-whole, filled-is, opening-count}
-use Rattle.profile.proofs.Laws.{is}
+use Rattle.cells.proofs.Laws.{is}
 use borrow.Author.Needs.{needs}
 use Rattle.profile.proofs.judge_image.Statement.{statement}
 use Rattle.profile.proofs.judge_image.Tie as tie

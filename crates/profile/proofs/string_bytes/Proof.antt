@@ -1,6 +1,6 @@
 use borrow.Author.Needs.{needs}
 use Rattle.profile.proofs.Found.{bytes-none, bytes-some}
-use Rattle.profile.proofs.Uses.{inside-at}
+use Rattle.cells.proofs.Uses.{inside-at}
 use Rattle.profile.proofs.string_bytes.Statement.{statement}
 use Rattle.profile.proofs.string_bytes.Tie as tie
 

@@ -1,5 +1,5 @@
 use borrow.Author.Needs.{needs}
-use Rattle.request.proofs.Answers.{head-inside, fillable, read-refused, read-accepted}
+use Rattle.request.proofs.Answers.{head-inside, lines-room, fillable, read-refused, read-accepted}
 use Rattle.request.proofs.read.Statement.{statement}
 use Rattle.request.proofs.read.Tie as tie
 
@@ -24,6 +24,9 @@ part-fill-end c = search head-inside
 fill-requires : tie.Need-fill-requires
 fill-requires c κs = search fillable
 
+add-t12 : tie.Need-add-t12
+add-t12 c = record { fits = search lines-room }
+
 returns : tie.Need-returns
 returns c = search read-refused
 
@@ -47,6 +50,7 @@ read-spec =
     part-fill-start
     part-fill-end
     fill-requires
+    add-t12
     returns
     same-length
     same-length-2

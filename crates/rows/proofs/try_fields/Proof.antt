@@ -3,21 +3,21 @@ use Prim.Native.Nat.{_-_, _≤_}
 use lib.ListN.{length}
 use borrow.Author.Needs.{needs}
 use Rattle.rows.proofs.Fielding.{Fielding, fielding-first, fielding-few, fielding-end, name-order, name-inside, value-order, value-inside, name-short, value-short, value-room, fielding-next, fielding-fit}
-use Rattle.rows.proofs.Requests.{indexed-at, index-room}
+use Rattle.request.proofs.Readings.{index-room}
 use Rattle.rows.proofs.try_fields.Statement.{statement}
 use Rattle.rows.proofs.try_fields.Tie as tie
 
 abbrev Inv-loop : tie.InvT-loop
-Inv-loop s starts colons h h-shape h-sets h-before with c c-shape c-sets c-before room₀ head fields fits₀ trials₀ i₀ room fits trials i = Fielding h with c s i fits trials × (length room ≡ length room₀) × (length s ≤ length room)
+Inv-loop s starts colons places h h-shape h-sets h-before with c c-shape c-sets c-before room₀ fields fits₀ trials₀ i₀ room fits trials i = Fielding h with c s i fits trials × (length room ≡ length room₀) × (length s ≤ length room)
 
 abbrev μ-loop : tie.MeasureT-loop
-μ-loop s starts colons h h-shape h-sets h-before with c c-shape c-sets c-before room₀ head fields fits₀ trials₀ i₀ room fits trials i = fields - i
+μ-loop s starts colons places h h-shape h-sets h-before with c c-shape c-sets c-before room₀ fields fits₀ trials₀ i₀ room fits trials i = fields - i
 
 loop-holds : tie.Need-loop-holds Inv-loop μ-loop
 loop-holds c = search (needs, fielding-first)
 
 field-at-requires : tie.Need-field-at-requires Inv-loop μ-loop
-field-at-requires c κs = search indexed-at
+field-at-requires c κs = search needs
 
 sub-try-field : tie.Need-sub-try-field Inv-loop μ-loop
 sub-try-field c = search (needs, name-order)

@@ -1,6 +1,7 @@
+use Rattle.rows.proofs.ByKind.{ready-body, ready-head, lines-short, patterns-body, patterns-head, spare-read}
+use native.Mathlib.Omega.{arith}
+use Rattle.request.proofs.Readings.{lines-inside}
 use borrow.Author.Needs.{needs}
-use Rattle.rows.proofs.ByKind.{ready-body, ready-head, body-place, body-short, patterns-body, patterns-head, spare-read}
-use Rattle.rows.proofs.Requests.{body-inside}
 use Rattle.rows.proofs.try_patterns.Statement.{statement}
 use Rattle.rows.proofs.try_patterns.Tie as tie
 
@@ -10,33 +11,38 @@ load-requires c κs = search needs
 load-requires-2 : tie.Need-load-requires-2
 load-requires-2 c κs = search needs
 
-add-a : tie.Need-add-a
-add-a c = search (needs, body-place)
-
 sub-try-lines : tie.Need-sub-try-lines
-sub-try-lines c = search (needs, body-inside)
+sub-try-lines c = omega (arith, lines-inside _ _ _ _ (c .before .before .before .before .before .before .before .before .before .before .before .before .before .pre .0))
 
 part-try-lines-start : tie.Need-part-try-lines-start
-part-try-lines-start c = search (needs, body-inside)
+part-try-lines-start c = lines-inside _ _ _ _ (c .before .before .before .before .before .before .before .before .before .before .before .before .before .pre .0)
 
 part-try-lines-end : tie.Need-part-try-lines-end
 part-try-lines-end c = search needs
 
--- So far back as the function's entry `search` does not look: its `pre` is given by its place.
 try-lines-requires : tie.Need-try-lines-requires
-try-lines-requires c κs = (body-short _ _ _ _ (c .before .before .before .before .before .before .before .before .before .before .before .before .before .before .before .before .before .before .before .pre .0), (ready-body _ _ _ _ _ (c .before .before .before .before .before .before .before .before .before .before .load .ensures .ready) (c .before .before .before .before .before .before .if1 .taken), search needs))
+try-lines-requires c κs =
+    let entry = c .before .before .before .before .before .before .before .before .before .before .before .before .before .before .before .before .before .before in
+    (lines-short _ _ _ _ (entry .pre .0), (ready-body _ _ _ _ _ (c .before .before .before .before .before .before .before .before .before .load .ensures) (c .before .before .before .before .before .if1 .taken), c .before .before .before .before .before .before .load2 .ensures))
 
 returns : tie.Need-returns
-returns c = ((patterns-body _ _ _ _ (c .before .before .before .before .before .before .before .before .before .before .before .before .before .before .before .before .before .before .before .before .pre .0) _ _ _ _ (c .before .before .before .before .before .before .before .if1 .taken) _ (c .try-lines .ensures .0), search needs), spare-read _ _ _ _ _ _ _ _ _ _ (c .before .before .before .before .before .before .before .before .before .before .before .load .ensures .ready) (c .before .before .before .before .before .before .before .before .load2 .ensures .ready))
+returns c =
+    let entry = c .before .before .before .before .before .before .before .before .before .before .before .before .before .before .before .before .before .before .before in
+    let tried = c .try-lines .ensures in
+    ((patterns-body _ _ _ _ (entry .pre .0) _ _ _ _ (c .before .before .before .before .before .before .if1 .taken) _ (tried .0), tried .1), spare-read _ _ _ _ _ _ _ _ _ _ (c .before .before .before .before .before .before .before .before .before .before .load .ensures) (c .before .before .before .before .before .before .before .load2 .ensures))
 
 try-fields-requires : tie.Need-try-fields-requires
-try-fields-requires c κs = (c .before .before .before .before .before .before .before .before .before .before .before .before .before .before .before .before .before .before .pre .0, (c .before .before .before .before .before .before .before .before .before .before .before .before .before .before .before .before .before .before .pre .1 .0, (ready-head _ _ _ _ _ (c .before .before .before .before .before .before .before .before .before .load .ensures .ready) (c .before .before .before .before .before .if1 .left), search needs)))
+try-fields-requires c κs =
+    let entry = c .before .before .before .before .before .before .before .before .before .before .before .before .before .before .before .before .before .before in
+    (entry .pre .0, (entry .pre .1 .0, (ready-head _ _ _ _ _ (c .before .before .before .before .before .before .before .before .before .load .ensures) (c .before .before .before .before .before .if1 .left), c .before .before .before .before .before .before .load2 .ensures)))
 
 same-length : tie.Need-same-length
 same-length c = search needs
 
 returns-2 : tie.Need-returns-2
-returns-2 c = ((search patterns-head, search needs), spare-read _ _ _ _ _ _ _ _ _ _ (c .before .before .before .before .before .before .before .before .before .before .before .before .load .ensures .ready) (c .before .before .before .before .before .before .before .before .before .load2 .ensures .ready))
+returns-2 c =
+    let tried = c .before .before .try-fields .ensures in
+    ((patterns-head _ _ _ _ _ (c .before .before .before .before .before .before .before .before .if1 .left) _ (tried .0), tried .1), spare-read _ _ _ _ _ _ _ _ _ _ (c .before .before .before .before .before .before .before .before .before .before .before .before .load .ensures) (c .before .before .before .before .before .before .before .before .before .load2 .ensures))
 
 pub try-patterns-spec : {M : Type 1} → statement M
 try-patterns-spec =
@@ -44,7 +50,6 @@ try-patterns-spec =
     (tie.spec
     load-requires
     load-requires-2
-    add-a
     sub-try-lines
     part-try-lines-start
     part-try-lines-end

@@ -36,7 +36,7 @@ loop-less : tie.Need-loop-less Inv-loop μ-loop
 loop-less c = search value-less
 
 loop-again : tie.Need-loop-again Inv-loop μ-loop
-loop-again c = search trying-next
+loop-again c = search (trying-next, c .test .ensures)
 
 returns : tie.Need-returns Inv-loop μ-loop
 returns c = (search trying-end, search trying-few)

@@ -1,6 +1,6 @@
 use borrow.Author.Needs.{needs}
 use Rattle.rows.proofs.ByKind.{single-few, case-row, uri-row, method-row, pattern-row}
-use Rattle.rows.proofs.Requests.{uri-room, uri-order, uri-inside, method-inside}
+use Rattle.request.proofs.Readings.{uri-room, uri-order, uri-inside, method-inside}
 use Rattle.rows.proofs.try_test.Statement.{statement}
 use Rattle.rows.proofs.try_test.Tie as tie
 
@@ -65,7 +65,7 @@ same-length : tie.Need-same-length
 same-length c = search needs
 
 returns-4 : tie.Need-returns-4
-returns-4 c = ((pattern-row _ _ (c .before .before .before .before .before .before .before .before .before .before .before .before .before .before .before .before .before .before .pre .1 .0) (c .before .before .before .before .before .before .before .before .before .before .before .before .if1 .left) (c .before .before .before .before .before .before .before .before .before .before .if2 .left) (c .before .before .before .before .before .before .before .before .before .if3 .left) _ _ _ _ _ (c .before .before .before .before .before .before .before .before .before .before .before .string-bytes .ensures) (c .before .before .before .before .before .before .before .before .string-bytes2 .ensures) _ (c .before .before .try-patterns .ensures .0 .0), search needs), c .before .before .try-patterns .ensures .1)
+returns-4 c = ((pattern-row _ _ (c .before .before .before .before .before .before .before .before .before .before .before .before .before .before .before .before .before .before .pre .1 .0) (c .before .before .before .before .before .before .before .before .before .before .before .before .if1 .left) (c .before .before .before .before .before .before .before .before .before .before .if2 .left) (c .before .before .before .before .before .before .before .before .before .if3 .left) _ _ _ _ (c .before .before .before .before .before .before .before .before .before .before .before .string-bytes .ensures) (c .before .before .before .before .before .before .before .before .string-bytes2 .ensures) _ (c .before .before .try-patterns .ensures .0 .0), search needs), c .before .before .try-patterns .ensures .1)
 
 pub try-test-spec : {M : Type 1} → statement M
 try-test-spec =

@@ -1,5 +1,5 @@
 use borrow.Author.Needs.{needs}
-use Rattle.request.proofs.Laws.{reduced-inside, reduced-short}
+use Rattle.contents.proofs.Laws.{reduced-inside, reduced-short}
 use Rattle.rows.proofs.Values.{values-once, values-pieces}
 use Rattle.rows.proofs.try_values.Statement.{statement}
 use Rattle.rows.proofs.try_values.Tie as tie
@@ -26,7 +26,7 @@ same-length : tie.Need-same-length
 same-length c = search needs
 
 returns : tie.Need-returns
-returns c = (search values-once, search needs)
+returns c = (search (values-once, c .test .ensures), search needs)
 
 sub-try-pieces : tie.Need-sub-try-pieces
 sub-try-pieces c = search needs

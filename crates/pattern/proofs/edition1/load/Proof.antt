@@ -1,5 +1,5 @@
 use borrow.Author.Needs.{needs}
-use Rattle.pattern.proofs.Elements.{stop-inside}
+use Rattle.basic.proofs.Elements.{stop-inside}
 use Rattle.pattern.proofs.Loading.{Loading, load-empty, load-start, load-end, load-lost, load-many, load-room, load-starred, load-once, load-less}
 use lib.ListN.{length}
 use Prim.Native.Nat.{_-_}

@@ -1,5 +1,5 @@
 use borrow.Author.Needs.{needs}
-use Rattle.pattern.proofs.Drawing.{as-name, as-written}
+use Rattle.pattern.proofs.Laying.{as-name, as-written}
 use Rattle.pattern.proofs.edition1.set_as.Statement.{statement}
 use Rattle.pattern.proofs.edition1.set_as.Tie as tie
 

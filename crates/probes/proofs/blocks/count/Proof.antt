@@ -48,7 +48,7 @@ loop-less : tie.Need-loop-less Inv-loop μ-loop
 loop-less c = search (needs, line-inside)
 
 loop-again : tie.Need-loop-again Inv-loop μ-loop
-loop-again c = search counting-next
+loop-again c = search (counting-next, c .before .test .ensures)
 
 returns : tie.Need-returns Inv-loop μ-loop
 returns c = search counting-end

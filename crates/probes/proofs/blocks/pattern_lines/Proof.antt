@@ -1,5 +1,5 @@
+use mathlib.Core.Path.{_∙_}
 use borrow.Author.Needs.{needs}
-use Rattle.pattern.proofs.Loading.{shape-tells}
 use Rattle.probes.proofs.Answering.{refused, answered}
 use Rattle.probes.proofs.blocks.pattern_lines.Statement.{statement}
 use Rattle.probes.proofs.blocks.pattern_lines.Tie as tie
@@ -11,7 +11,7 @@ is-loaded-requires : tie.Need-is-loaded-requires
 is-loaded-requires c κs = search needs
 
 returns : tie.Need-returns
-returns c = refused _ _ _ _ (shape-tells _ _ _ (c .before .is-loaded .ensures) (c .before .before .load .ensures .ready .prepared .shape)) (c .if1 .taken)
+returns c = refused _ _ _ _ (c .before .is-loaded .ensures ∙ c .before .before .load .ensures .told) (c .if1 .taken)
 
 count-requires : tie.Need-count-requires
 count-requires c κs = search needs
@@ -21,7 +21,7 @@ cast-met c = search needs
 
 returns-2 : tie.Need-returns-2
 returns-2 c =
-    answered _ _ _ _ (shape-tells _ _ _ (c .before .before .before .before .is-loaded .ensures) (c .before .before .before .before .before .load .ensures .ready .prepared .shape))
+    answered _ _ _ _ (c .before .before .before .before .is-loaded .ensures ∙ c .before .before .before .before .before .load .ensures .told)
     (c .before .before .before .if1 .left) _ (c .count .ensures)
 
 pub pattern-lines-spec : {M : Type 1} → statement M

@@ -10,7 +10,7 @@ first-match-requires : tie.Need-first-match-requires
 first-match-requires c κs = search needs
 
 returns : tie.Need-returns
-returns c = (place-meets _ _ _ _ (c .first-match .ensures), search needs)
+returns c = (place-meets _ _ _ _ (c .first-match .ensures _ _ (c .before .before .before .load .ensures)), search needs)
 
 pub read-and-test-spec : {M : Type 1} → statement M
 read-and-test-spec = tie.close (tie.spec load-requires first-match-requires returns)

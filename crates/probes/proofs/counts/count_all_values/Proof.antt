@@ -2,21 +2,22 @@ use mathlib.Core.Path.{_≡_}
 use Prim.Native.Nat.{_-_, _≤_}
 use lib.ListN.{length}
 use borrow.Author.Needs.{needs}
-use Rattle.probes.proofs.Placing.{Fielding, fielding-first, fielding-end, indexed-at, index-room, name-order, name-inside, value-order, value-inside, value-fits, value-short, fielding-next, fielding-room}
+use Rattle.request.proofs.Readings.{index-room}
+use Rattle.probes.proofs.Placing.{Fielding, fielding-first, fielding-end, name-order, name-inside, value-order, value-inside, value-fits, value-short, fielding-next, fielding-room}
 use Rattle.probes.proofs.counts.count_all_values.Statement.{statement}
 use Rattle.probes.proofs.counts.count_all_values.Tie as tie
 
 abbrev Inv-loop : tie.InvT-loop
-Inv-loop s starts colons head fields room₀ n₀ i₀ room n i = Fielding s i n × (length room ≡ length room₀) × (length s ≤ length room)
+Inv-loop s starts colons places room₀ fields n₀ i₀ room n i = Fielding s i n × (length room ≡ length room₀) × (length s ≤ length room)
 
 abbrev μ-loop : tie.MeasureT-loop
-μ-loop s starts colons head fields room₀ n₀ i₀ room n i = fields - i
+μ-loop s starts colons places room₀ fields n₀ i₀ room n i = fields - i
 
 loop-holds : tie.Need-loop-holds Inv-loop μ-loop
 loop-holds c = search (needs, fielding-first)
 
 field-at-requires : tie.Need-field-at-requires Inv-loop μ-loop
-field-at-requires c κs = search indexed-at
+field-at-requires c κs = search needs
 
 sub-count-values : tie.Need-sub-count-values Inv-loop μ-loop
 sub-count-values c = search (needs, name-order)

@@ -1,5 +1,6 @@
 use borrow.Author.Needs.{needs}
-use Rattle.probes.proofs.PartsCounting.{nothing-read, body-room, body-inside, body-short, fields-few, text-fits, places-read, parts-counted}
+use Rattle.request.proofs.Readings.{value-room}
+use Rattle.probes.proofs.PartsCounting.{nothing-read, lines-start, rest-short, fields-low, places-read, parts-counted}
 use Rattle.probes.proofs.counts.count_parts.Statement.{statement}
 use Rattle.probes.proofs.counts.count_parts.Tie as tie
 
@@ -9,29 +10,26 @@ read-requires c κs = search needs
 enum-told : tie.Need-enum-told
 enum-told c = search needs
 
-enum-known-method : tie.Need-enum-known-method
-enum-known-method c = search needs
+enum-known-places : tie.Need-enum-known-places
+enum-known-places c = search needs
 
 count-all-values-requires : tie.Need-count-all-values-requires
-count-all-values-requires c κs = (search places-read, search text-fits)
-
-add-a : tie.Need-add-a
-add-a c = search (needs, body-room)
+count-all-values-requires c κs = (search places-read, search value-room)
 
 sub-count-lines : tie.Need-sub-count-lines
-sub-count-lines c = search (needs, body-inside)
+sub-count-lines c = search (needs, lines-start)
 
 part-count-lines-start : tie.Need-part-count-lines-start
-part-count-lines-start c = search (needs, body-inside)
+part-count-lines-start c = search (needs, lines-start)
 
 part-count-lines-end : tie.Need-part-count-lines-end
 part-count-lines-end c = search needs
 
 count-lines-requires : tie.Need-count-lines-requires
-count-lines-requires c κs = search body-short
+count-lines-requires c κs = search rest-short
 
 small-requires : tie.Need-small-requires
-small-requires c κs = search fields-few
+small-requires c κs = search fields-low
 
 same-length : tie.Need-same-length
 same-length c = search needs
@@ -60,9 +58,8 @@ count-parts-spec =
     (tie.spec
     read-requires
     enum-told
-    enum-known-method
+    enum-known-places
     count-all-values-requires
-    add-a
     sub-count-lines
     part-count-lines-start
     part-count-lines-end

@@ -1,11 +1,8 @@
 use borrow.Author.Needs.{needs}
-use Rattle.request.proofs.Laws.{reduced-inside, reduced-short}
+use Rattle.contents.proofs.Laws.{reduced-inside, reduced-short}
 use Rattle.probes.proofs.Pieces.{one-value, pieces-counted}
 use Rattle.probes.proofs.counts.count_values.Statement.{statement}
 use Rattle.probes.proofs.counts.count_values.Tie as tie
-
-name-of-requires : tie.Need-name-of-requires
-name-of-requires c κs = search needs
 
 never-cut-requires : tie.Need-never-cut-requires
 never-cut-requires c κs = search needs
@@ -38,7 +35,6 @@ pub count-values-spec : {M : Type 1} → statement M
 count-values-spec =
     tie.close
     (tie.spec
-    name-of-requires
     never-cut-requires
     returns
     normalise-requires

@@ -1,5 +1,5 @@
 use borrow.Author.Needs.{needs}
-use Rattle.request.proofs.Search.{break-no-cr, break-no-lf, break-fold, break-yes}
+use Rattle.request.proofs.Ends.{break-no-cr, break-no-lf, break-fold, break-yes}
 use Rattle.request.proofs.field_lines.line_break_at.Statement.{statement}
 use Rattle.request.proofs.field_lines.line_break_at.Tie as tie
 

@@ -1,0 +1,4 @@
+pub mod Laws
+pub mod Many
+pub mod Texts
+pub mod Uses

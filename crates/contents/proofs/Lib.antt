@@ -1,0 +1,5 @@
+pub mod BodyLines
+pub mod Laws
+pub mod Norm
+pub mod Small
+pub mod Values

@@ -1,0 +1,4 @@
+pub mod Body
+pub mod Places
+pub mod Steps
+pub mod Values

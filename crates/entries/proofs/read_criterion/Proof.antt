@@ -1,0 +1,65 @@
+use borrow.Author.Needs.{needs}
+use Rattle.entries.proofs.Readers.{criterion-is}
+use Rattle.entries.proofs.read_criterion.Statement.{statement}
+use Rattle.entries.proofs.read_criterion.Tie as tie
+
+priority-requires : tie.Need-priority-requires
+priority-requires c κs = search needs
+
+add-wide : tie.Need-add-wide
+add-wide c = search needs
+
+shared-slice-read-wide : tie.Need-shared-slice-read-wide
+shared-slice-read-wide c = search needs
+
+wide-requires : tie.Need-wide-requires
+wide-requires c κs = search needs
+
+add-read-trigger : tie.Need-add-read-trigger
+add-read-trigger c = search needs
+
+read-trigger-requires : tie.Need-read-trigger-requires
+read-trigger-requires c κs = search needs
+
+add-number : tie.Need-add-number
+add-number c = search needs
+
+number-requires : tie.Need-number-requires
+number-requires c κs = search needs
+
+add-wide-2 : tie.Need-add-wide-2
+add-wide-2 c = search needs
+
+shared-slice-read-wide-2 : tie.Need-shared-slice-read-wide-2
+shared-slice-read-wide-2 c = search needs
+
+wide-requires-2 : tie.Need-wide-requires-2
+wide-requires-2 c κs = search needs
+
+add-number-2 : tie.Need-add-number-2
+add-number-2 c = search needs
+
+number-requires-2 : tie.Need-number-requires-2
+number-requires-2 c κs = search needs
+
+returns : tie.Need-returns
+returns c = search criterion-is
+
+pub read-criterion-spec : {M : Type 1} → statement M
+read-criterion-spec =
+    tie.close
+    (tie.spec
+    priority-requires
+    add-wide
+    shared-slice-read-wide
+    wide-requires
+    add-read-trigger
+    read-trigger-requires
+    add-number
+    number-requires
+    add-wide-2
+    shared-slice-read-wide-2
+    wide-requires-2
+    add-number-2
+    number-requires-2
+    returns)

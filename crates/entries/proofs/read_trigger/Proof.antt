@@ -1,0 +1,37 @@
+use borrow.Author.Needs.{needs}
+use Rattle.entries.proofs.Readers.{trigger-is}
+use Rattle.entries.proofs.read_trigger.Statement.{statement}
+use Rattle.entries.proofs.read_trigger.Tie as tie
+
+shared-slice-read-wide : tie.Need-shared-slice-read-wide
+shared-slice-read-wide c = search needs
+
+wide-requires : tie.Need-wide-requires
+wide-requires c κs = search needs
+
+add-number : tie.Need-add-number
+add-number c = search needs
+
+number-requires : tie.Need-number-requires
+number-requires c κs = search needs
+
+add-number-2 : tie.Need-add-number-2
+add-number-2 c = search needs
+
+number-requires-2 : tie.Need-number-requires-2
+number-requires-2 c κs = search needs
+
+returns : tie.Need-returns
+returns c = search trigger-is
+
+pub read-trigger-spec : {M : Type 1} → statement M
+read-trigger-spec =
+    tie.close
+    (tie.spec
+    shared-slice-read-wide
+    wide-requires
+    add-number
+    number-requires
+    add-number-2
+    number-requires-2
+    returns)

@@ -1,9 +1,0 @@
-use Rattle.pattern.proofs.Words.{letters-word}
-use Rattle.pattern.proofs.sets.folded_word.Statement.{statement}
-use Rattle.pattern.proofs.sets.folded_word.Tie as tie
-
-returns : tie.Need-returns
-returns c = λ f e. letters-word f _ e
-
-pub folded-word-spec : {M : Type 1} → statement M
-folded-word-spec = tie.close (tie.spec returns)
