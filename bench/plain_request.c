@@ -140,9 +140,10 @@ static size_t normalise(struct slice raw, uint8_t *to) {
     return n;
 }
 
+/* s is the short name of Subject. */
 static int never_cut(struct slice name) {
     return SAME(name, "Authorization") | SAME(name, "Proxy-Authorization") | SAME(name, "WWW-Authenticate") |
-        SAME(name, "Proxy-Authenticate") | SAME(name, "Date") | SAME(name, "Subject");
+        SAME(name, "Proxy-Authenticate") | SAME(name, "Date") | SAME(name, "Subject") | SAME(name, "s");
 }
 
 static size_t piece_end(struct slice v, size_t i) {

@@ -1,10 +1,9 @@
 /* The sample desk's profile. It has three servers.
  *
  * The recorder takes, in every session case, an INVITE with a body line m=audio, a MESSAGE and a first REGISTER, each only if a From
- * field holds a desk's address (DESK_ADDRESS). If its default handling is terminated, a call does not go on without it. Past it go,
- * beside other methods,
+ * field holds a desk's address (DESK_ADDRESS); `f:` is From too, since change request 1. If its default handling is terminated, a
+ * call does not go on without it. Past it go, beside other methods,
  * - an INVITE without m=audio in its body, also one that leaves the offer to the other side;
- * - a request whose From stands under the compact name `f:`, for names are taken as written and `f:` is not `From:`;
  * - a desk's address in another form: with an escape (%64esk14 for desk14), with a password, as a tel: number.
  *
  * Billing takes calls to other houses. Voicemail takes calls to a desk and learns when one comes and goes. */

@@ -7,7 +7,8 @@
  * Profile image   the subscriber's filter criteria in the house format (docs/IMAGE.md of the source), at most 32,768 bytes. Every call
  *                 that takes an image judges the whole of it before using it, so it need not be checked before.
  * Request         one SIP request, cut from the wire by the host: it begins with its start line, with no line before it; the body is
- *                 all that follows the first empty line; lines of the head end with CR LF; at most 65,535 bytes.
+ *                 all that follows the first empty line; lines of the head end with CR LF; at most 65,535 bytes. Header names of one
+ *                 letter that RFC 3261 lists count as the long ones (`f:` is `From:`), since change request 1.
  * Session         five numbers that the caller keeps between calls: see ifc_session. Nothing needs closing.
  * Criterion       named by its number in the image, counted from 0, not by its priority.
  *

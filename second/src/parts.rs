@@ -53,7 +53,7 @@ fn mixed(random: &mut Random) -> Vec<u8> {
         if out.len() > 65_000 {
             break;
         }
-        out.extend(random.pick(&["X", "Subject", "dATE", "Dates", "m"]).bytes());
+        out.extend(random.pick(&["X", "Subject", "dATE", "Dates", "m", "s", "S", "ss"]).bytes());
         out.extend(random.pick(&[":", " \t:", ": "]).bytes());
         for _ in 0..random.below(most) {
             out.extend(*random.pick(&[

@@ -3,7 +3,7 @@
 use crate::matching::{matches, Letters};
 use crate::pattern::Pattern;
 use crate::profile::{Row, Test};
-use crate::request::{Field, Line, Request};
+use crate::request::{name, Field, Line, Request};
 use crate::twist::{twisted, Twist};
 
 /// What rows are held against.
@@ -82,9 +82,11 @@ fn in_set(row: &Row, subject: &Subject) -> bool {
     row.registration_set >> bit & 1 == 1
 }
 
-fn name_matches(name: &Pattern, field: &Field) -> bool {
+fn name_matches(pattern: &Pattern, field: &Field) -> bool {
     let letters = if twisted(Twist::NamesAsWritten) { Letters::AsWritten } else { Letters::EitherForm };
-    matches(name, &field.name, letters)
+    // With this twist the field holds its name as written.
+    let too = twisted(Twist::WrittenNameTriedToo) && matches(pattern, &name::long(&field.name), letters);
+    matches(pattern, &field.name, letters) || too
 }
 
 fn content_matches(content: &Pattern, value: &[u8]) -> bool {

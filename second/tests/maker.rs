@@ -3,6 +3,7 @@
 use second::case::{answer, Call, Case};
 use second::files;
 use second::maker::{self, random::Random};
+use second::request::name::SHORT;
 use second::twist::ALL;
 use std::collections::BTreeSet;
 
@@ -30,6 +31,35 @@ fn a_third_of_the_random_advances_forward() {
     assert!(forwards * 3 >= advances.len(), "{forwards} of {}", advances.len());
     let routes = advances.iter().filter(|case| answer(case).numbers[6] == 2).count();
     assert!(routes * 10 >= advances.len(), "{routes} of {}", advances.len());
+}
+
+/// Of the random advances on a request that has fields, at least half have a short one, and some rows ask for one.
+#[test]
+fn random_requests_have_short_names() {
+    let cases = maker::random(13, 20_000);
+    let short = |line: &[u8]| {
+        let name = line.split(|byte| b" \t:".contains(byte)).next().unwrap_or_default();
+        name.len() == 1 && SHORT.iter().any(|(letter, ..)| name[0].to_ascii_lowercase() == *letter)
+    };
+    let head = |case: &Case| {
+        let end = case.request.windows(4).position(|four| four == b"\r\n\r\n").unwrap_or(0);
+        case.request[..end].split(|&byte| byte == b'\n').skip(1).map(<[u8]>::to_vec).collect::<Vec<_>>()
+    };
+    let heads: Vec<Vec<Vec<u8>>> = cases
+        .iter()
+        .filter(|case| case.call == Call::Advance)
+        .map(head)
+        .filter(|head| !head.is_empty())
+        .collect();
+    let with = heads.iter().filter(|head| head.iter().any(|line| short(line))).count();
+    assert!(heads.len() > 4_000);
+    assert!(with * 2 >= heads.len(), "{with} of {}", heads.len());
+    let asked = |pattern: &[u8]| {
+        cases.iter().filter(|case| case.image.windows(pattern.len()).any(|part| part == pattern)).count()
+    };
+    for pattern in [b"^f$".as_slice(), b"^.$"] {
+        assert!(asked(pattern) > 100, "{}", pattern.escape_ascii());
+    }
 }
 
 /// Walks go further than one forward, and lists are longer than one.
@@ -89,7 +119,7 @@ fn few_of_every_kind() {
 /// The readings marked H.
 const MARKED: &[&str] = &[
     "P1", "P3", "P6", "P7", "P9", "I1", "I2", "I3", "I5", "I6", "I9", "R1", "R13", "F2", "F7", "S2", "S3",
-    "S5", "L5",
+    "S5", "L5", "1.1",
 ];
 
 #[test]

@@ -1,4 +1,5 @@
-//! The readings, point by point: each value here is written in the list of readings.
+//! The readings, point by point: each value here is written in the list of readings. Points 1.1 to 1.7 are those of change
+//! request 1.
 
 mod common;
 use common::*;
@@ -319,7 +320,96 @@ fn r12_never_cut() {
     {
         assert_eq!(values(format!("{name}: a ,\t b\r\n\r\n").as_bytes()), [b"a , b"], "{name}");
     }
-    assert_eq!(values(b"s: a,b\r\n\r\n"), [b"a", b"b"]);
+}
+
+/// A name as it is matched.
+fn long(written: &str) -> String {
+    let request =
+        second::request::read(&invite(format!("{written}: a\r\n\r\n").as_bytes())).expect("readable");
+    String::from_utf8(request.fields[0].name.clone()).expect("a token")
+}
+
+/// Whether a row of this Header pattern fits, and its trials.
+fn header(pattern: &[u8], content: Option<&[u8]>, rest: &[u8]) -> (bool, u32) {
+    let mut draft = Draft::new();
+    let row = draft.text_row(2, pattern, content);
+    draft.single(1, row);
+    let answer = advance(&draft.bytes(), &invite(rest), READY);
+    (answer.outcome == 1, answer.trials)
+}
+
+#[test]
+fn cr1_1_the_written_name_is_not_tried() {
+    for name in ["f", "F", "From"] {
+        let rest = format!("{name}: joe\r\n\r\n");
+        for (pattern, met) in
+            [(b"^From$".as_slice(), true), (b"^F", true), (b"om$", true), (b"^f$", false), (b"^.$", false)]
+        {
+            let shown = pattern.escape_ascii();
+            assert_eq!(header(pattern, None, rest.as_bytes()), (met, 1), "{shown} on {name}");
+        }
+    }
+    let mut draft = Draft::new();
+    let row = draft.text_row(2, b"^f$", Some(b"joe"));
+    draft.single(1, negated(row));
+    assert!(row_fits(&draft, &invite(b"f: joe\r\n\r\n")));
+}
+
+#[test]
+fn cr1_2_which_names() {
+    let listed = [
+        ("i", "Call-ID"),
+        ("m", "Contact"),
+        ("e", "Content-Encoding"),
+        ("l", "Content-Length"),
+        ("c", "Content-Type"),
+        ("f", "From"),
+        ("s", "Subject"),
+        ("k", "Supported"),
+        ("t", "To"),
+        ("v", "Via"),
+    ];
+    for (short, name) in listed {
+        assert_eq!(long(short), name);
+        assert_eq!(long(&short.to_uppercase()), name);
+    }
+    for byte in (33..127u8).filter(|&byte| second::token::is_token_byte(byte)) {
+        let name = char::from(byte).to_string();
+        let short = listed.iter().any(|(short, _)| *short == name.to_lowercase());
+        assert_eq!(long(&name) == name, !short, "{name}");
+    }
+    for stays in ["o", "u", "r", "x", "j", "O", "ff", "f-", "-f", "fF", "from", "Subjec"] {
+        assert_eq!(long(stays), stays);
+    }
+}
+
+#[test]
+fn cr1_3_short_subject_is_never_cut() {
+    for name in ["s", "S", "s ", "S\t"] {
+        assert_eq!(values(format!("{name}:  a ,\t b\r\n\r\n").as_bytes()), [b"a , b"], "{name}");
+    }
+    for name in ["i", "m", "e", "l", "c", "f", "k", "t", "v", "F", "d", "a", "ss", "s-"] {
+        assert_eq!(values(format!("{name}: a ,\t b\r\n\r\n").as_bytes()), [b"a", b"b"], "{name}");
+    }
+    assert_eq!(header(b"^Subject$", Some(b"^a, b$"), b"s: a,  b\r\n\r\n"), (true, 2));
+    assert_eq!(header(b"^To$", Some(b"^b$"), b"t: a,  b\r\n\r\n"), (true, 3));
+}
+
+#[test]
+fn cr1_5_short_and_long_are_two_fields() {
+    let both = b"f: joe, ann\r\nX: a\r\nFrom: bob\r\n\r\n";
+    assert_eq!(header(b"^From$", None, both), (true, 3));
+    assert_eq!(header(b"^From$", Some(b"bob"), both), (true, 3 + 2 + 1));
+    assert_eq!(header(b"^From$", Some(b"joe.*bob"), both), (false, 3 + 2 + 1));
+    assert_eq!(header(b"^f$", Some(b"joe"), both), (false, 3));
+}
+
+#[test]
+fn cr1_7_blanks_before_the_colon() {
+    for name in ["f ", "F\t", "f \t "] {
+        assert_eq!(long(name), "From", "{name}");
+    }
+    assert!(!readable(&invite(b"f\r\n : a\r\n\r\n")));
 }
 
 fn lines(body: &[u8]) -> Vec<(u8, Vec<u8>)> {

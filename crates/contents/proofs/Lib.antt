@@ -1,5 +1,6 @@
 pub mod BodyLines
 pub mod Laws
 pub mod Norm
+pub mod Shortening
 pub mod Small
 pub mod Values

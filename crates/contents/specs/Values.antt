@@ -49,11 +49,7 @@ cuts angle b = false
 abbrev pub pieces : List ℕ → List (List ℕ)
 pieces v = cut-by cuts step plain v
 
--- "Names are taken as written."
-abbrev pub name-as-matched : List ℕ → List ℕ
-name-as-matched written = written
-
--- "Never cut: .., in any case."
+-- "Never cut: .., in any case": by the long name ("The rule on fields never cut uses long names too", change request 1)
 abbrev pub never-cut : List ℕ → Bool
 never-cut name = some-of (same-any-case name) (
     text "Authorization" ∷ text "Proxy-Authorization" ∷ text "WWW-Authenticate"

@@ -1,10 +1,12 @@
 // What stands in a request's fields and body: the values of a field, reduced and cut at commas, and the lines of a body. The definitions
 // stand in specs/.
 mod body_lines;
+mod names;
 mod pieces;
 
 pub use crate::body_lines::next_line;
-pub use crate::pieces::never_cut;
+pub use crate::names::never_cut;
+pub use crate::names::short_place;
 pub use crate::pieces::next_value;
 pub use crate::pieces::normalise;
 

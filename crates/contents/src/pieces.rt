@@ -6,7 +6,7 @@ ghost use Rattle.cuts.specs.Parts.{over};
 ghost use Rattle.cuts.specs.Searching.{span};
 ghost use Rattle.contents.specs.Places.{piece-at};
 ghost use Rattle.contents.specs.Steps.{space, mode-of};
-ghost use Rattle.contents.specs.Values.{plain, step, cuts, reduced, name-as-matched, never-cut};
+ghost use Rattle.contents.specs.Values.{plain, step, cuts, reduced};
 use crate::Piece;
 
 // Where a byte of a value stands: in plain text, in quoted text, in it just after `\`, or in `<>`.
@@ -51,19 +51,6 @@ pub fn normalise(raw: &[u8], dst: &mut [u8]) -> usize
         }
     }
     n
-}
-
-// "Never cut: .., in any case" (document 01), by the name of a field as written.
-pub fn never_cut(written: &[u8]) -> bool
-    ensures { λ r. ⌜ r ≡ never-cut (name-as-matched (now (written .entry))) ⌝ }
-{
-    let a = octets::same_letters(written, b"Authorization");
-    let b = octets::same_letters(written, b"Proxy-Authorization");
-    let c = octets::same_letters(written, b"WWW-Authenticate");
-    let d = octets::same_letters(written, b"Proxy-Authenticate");
-    let e = octets::same_letters(written, b"Date");
-    let f = octets::same_letters(written, b"Subject");
-    a | b | c | d | e | f
 }
 
 fn next_within(w: Within, b: u8) -> Within

@@ -7,7 +7,8 @@ use native.Mathlib.Omega.{arith}
 use lib.ListN.{length, take}
 use Rattle.cuts.specs.Parts.{over}
 use Rattle.contents.specs.Places.{values-from, piece-at}
-use Rattle.contents.specs.Values.{reduced, name-as-matched, never-cut, values-of}
+use Rattle.contents.specs.Names.{name-as-matched}
+use Rattle.contents.specs.Values.{reduced, never-cut, values-of}
 use Rattle.contents.specs.declared.Piece.{Piece}
 use Rattle.contents.proofs.Laws.{reduced-front}
 use Rattle.contents.proofs.Values.{ValueAt, value-says, values-past, values-cut, values-whole}

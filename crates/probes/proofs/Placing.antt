@@ -9,7 +9,8 @@ use Rattle.octets.specs.Lists.{total}
 use Rattle.octets.proofs.Kept.{total-mono}
 use Rattle.cuts.specs.Parts.{part}
 use Rattle.cuts.proofs.Parts.{length-part}
-use Rattle.contents.specs.Values.{reduced, name-as-matched, values-of}
+use Rattle.contents.specs.Names.{name-as-matched}
+use Rattle.contents.specs.Values.{reduced, values-of}
 use Rattle.request.specs.Places.{head-of, field-parts, Placed, request-of}
 use Rattle.request.specs.Request.{Request, read-request}
 use Rattle.request.specs.declared.FieldParts.{FieldParts}

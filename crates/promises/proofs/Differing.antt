@@ -36,6 +36,24 @@ unasked-agree = record {
   same-body = λ t. absurd t;
 }
 
+-- From under the short name, and under the long one
+pub under : String → List ℕ
+under name = text "INVITE sip:b SIP/2.0\r\n" ++ text name ++ text ": joe\r\n\r\n"
+
+pub short-agree : Agree (from-joe 0) (under "f") (under "From")
+unfolding under written judge profile-in read-request request-of start-of
+short-agree = record {
+  profile = profile-in (from-joe 0);
+  accepts = refl;
+  q = request-of (under "f");
+  r = request-of (under "From");
+  reads-q = refl;
+  reads-r = refl;
+  same-start-line = refl;
+  same-fields = field-and refl (λ t. refl) none-left;
+  same-body = λ t. absurd t;
+}
+
 -- another From
 pub asked-differ : (advance (fresh 0) (from-joe 0) (invite "joe" "1" "m=a") .outcome ≡ 1) × (advance (fresh 0) (from-joe 0) (invite "ann" "1" "m=a") .outcome ≡ 2)
 unfolding invite written advance

@@ -40,7 +40,7 @@ use Rattle.promises.specs.Reached.{Reached}
 use Rattle.promises.specs.Refusals.{First, check-lines, open-lines, advance-lines, listing-lines, report-lines, lookup-lines, AdvanceUnchanged, ListingUnchanged, LookupEmpty}
 use Rattle.promises.specs.Walks.{Candidate, Answers, Answered, Listable, ListsAll, Move, forwards}
 use Rattle.promises.proofs.Alike as alike
-use Rattle.promises.proofs.Differing.{invite, unasked-agree, asked-differ}
+use Rattle.promises.proofs.Differing.{invite, under, unasked-agree, short-agree, asked-differ}
 use Rattle.promises.proofs.OneAnswer as one
 use Rattle.promises.proofs.Sessions.{opens-fresh, report-answers}
 use Rattle.promises.proofs.AtMost.{at-most}
@@ -177,6 +177,10 @@ calls-read-no-more = run-same
 -- two requests that differ in a value and a body of which no row asks, and so get one answer
 pub unasked-may-differ : MayDiffer (common.from-joe 0) (invite "joe" "1" "m=a") (invite "joe" "2" "m=b")
 unasked-may-differ = agreeing unasked-agree
+
+-- "Demand 3 compares names after this step" (change request 1): `f` in one and `From` in the other are the same name
+pub short-may-differ : MayDiffer (common.from-joe 0) (under "f") (under "From")
+short-may-differ = agreeing short-agree
 
 -- two that differ in a value of which one asks, and do not
 pub asked-tells : (advance (fresh 0) (common.from-joe 0) (invite "joe" "1" "m=a") .outcome ≡ 1) × (advance (fresh 0) (common.from-joe 0) (invite "ann" "1" "m=a") .outcome ≡ 2)

@@ -54,7 +54,8 @@ line-of (some c) = first (head-lines (c .before))
 unfoldable pub start-of : List ℕ → List ℕ
 start-of s = line-of (first-cut empty-line s)
 
--- "the header names", in the same order, and "the values of fields whose name some Header pattern of the profile meets"
+-- "the header names", in the same order, each as it is matched ("Demand 3 compares names after this step", change request 1), and "the
+-- values of fields whose name some Header pattern of the profile meets"
 pub data AgreeFields (rows : List Row) : List Field → List Field → Type 0 where
   none-left : AgreeFields rows [] []
   field-and : {f g : Field} {fs gs : List Field} → f .name ≡ g .name → (T (any-header rows (f .name)) → f .values ≡ g .values)

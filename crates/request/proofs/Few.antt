@@ -16,7 +16,8 @@ use Rattle.cuts.specs.Searching.{first}
 use Rattle.cuts.specs.Trimming.{trim-right}
 use Rattle.cuts.proofs.Parts.{length-part}
 use Rattle.cuts.proofs.Trims.{trim-le}
-use Rattle.contents.specs.Values.{reduced, name-as-matched}
+use Rattle.contents.specs.Names.{name-as-matched}
+use Rattle.contents.specs.Values.{reduced}
 use Rattle.contents.proofs.Norm.{reduced-le}
 use Rattle.contents.proofs.Small.{values-length}
 use Rattle.request.specs.Places.{colon-in, head-of}

@@ -20,7 +20,8 @@ use Rattle.cuts.specs.Trimming.{trim-right}
 use Rattle.cuts.proofs.Parts.{length-part}
 use Rattle.cuts.proofs.Search.{first-le, cut-found, cut-missing}
 use Rattle.cuts.proofs.Trims.{trim-front, trim-le}
-use Rattle.contents.specs.Values.{reduced, name-as-matched, values-of}
+use Rattle.contents.specs.Names.{name-as-matched}
+use Rattle.contents.specs.Values.{reduced, values-of}
 use Rattle.request.specs.Places.{line-starts, colon-in, line-colons}
 use Rattle.request.specs.Request.{Field, paired, field}
 use Rattle.request.specs.Steps.{line-break, word-byte, is-some, is-field, lines-from}

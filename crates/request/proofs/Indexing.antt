@@ -21,7 +21,8 @@ use Rattle.cuts.specs.Trimming.{trim-right}
 use Rattle.cuts.proofs.Parts.{drop-take, length-part, part-front}
 use Rattle.cuts.proofs.Search.{first-le, first-holds, begins-long, before-length}
 use Rattle.cuts.proofs.Trims.{trim-le, trim-front}
-use Rattle.contents.specs.Values.{reduced, name-as-matched, values-of}
+use Rattle.contents.specs.Names.{name-as-matched}
+use Rattle.contents.specs.Values.{reduced, values-of}
 use Rattle.request.specs.Places.{head-of, field-lines, fields-start, line-starts, colon-in, line-colons, reading, starts-of, colons-of, places-of, Read, Placed, parts-of, field-parts}
 use Rattle.request.specs.Request.{Field, Request, paired, read-request}
 use Rattle.request.specs.Steps.{line-break, lines-from, judged}

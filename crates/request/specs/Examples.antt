@@ -88,6 +88,10 @@ examples =
     ∷ is-unreadable (with "X Y: a")
     ∷ is-unreadable (with "X\r\n : a")
     ∷ names "X \t: a\r\nfrom:\r\n b\r\nX:" ("X" ∷ "from" ∷ "X" ∷ [])
+    -- the ten short names in either case, and none but them
+    ∷ names "i:\r\nM:\r\ne:\r\nL:\r\nc:\r\nF:\r\ns:\r\nK:\r\nt:\r\nV:"
+    ("Call-ID" ∷ "Contact" ∷ "Content-Encoding" ∷ "Content-Length" ∷ "Content-Type" ∷ "From" ∷ "Subject" ∷ "Supported" ∷ "To" ∷ "Via" ∷ [])
+    ∷ names "f \t: a\r\nff: b\r\nf-: c\r\no:\r\nU:\r\nr:\r\nX:\r\nj:" ("From" ∷ "ff" ∷ "f-" ∷ "o" ∷ "U" ∷ "r" ∷ "X" ∷ "j" ∷ [])
     -- white space
     ∷ values "X:  a \t b\r\n\t c " ("a b c" ∷ [])
     ∷ values "X:\r\n \r\n\t" ("" ∷ [])
@@ -104,6 +108,7 @@ examples =
     -- never cut
     ∷ values "sUBJECT: a , b" ("a , b" ∷ [])
     ∷ values "Date: a,b\r\nDates: a,b" ("a,b" ∷ "a" ∷ "b" ∷ [])
+    ∷ values "s: a ,  b\r\nS: c,d\r\nm: e, f" ("a , b" ∷ "c,d" ∷ "e" ∷ "f" ∷ [])
     -- body lines
     ∷ body "v=0\r\nm=a\r\r\nx\r\n\r\n==\n=\nc=\r" ("v0" ∷ "ma\r" ∷ "=" ∷ "c\r" ∷ [])
     ∷ body "a=1\rb=2" ("a1\rb=2" ∷ [])

@@ -11,7 +11,8 @@ use Rattle.octets.specs.Bytes.{within, same-any-case, token, white, uri-byte}
 use Rattle.cuts.specs.Cutting.{first-cut, cut-by, cut-at}
 use Rattle.cuts.specs.Trimming.{trim-right}
 use Rattle.contents.specs.Body.{Line, session-lines}
-use Rattle.contents.specs.Values.{reduced, name-as-matched, values-of}
+use Rattle.contents.specs.Names.{name-as-matched}
+use Rattle.contents.specs.Values.{reduced, values-of}
 
 -- a field: its name, and the values it is cut into
 pub record Field : Type 0 where
@@ -97,7 +98,7 @@ field l = do
 
 -- every one of them must be a field
 unfoldable pub all-fields : List (List ℕ) → Option (List Field)
-unfolding first-cut trim-right reduced values-of
+unfolding first-cut trim-right name-as-matched reduced values-of
 all-fields [] = some []
 all-fields (l ∷ ls) = do
   f ← field l

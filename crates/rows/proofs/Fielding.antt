@@ -7,7 +7,8 @@ use native.Mathlib.Omega.{arith}
 use lib.ListN.{length, drop, drop-of-length-le}
 use Rattle.cuts.specs.Parts.{part}
 use Rattle.cuts.proofs.Parts.{length-part}
-use Rattle.contents.specs.Values.{reduced, name-as-matched, values-of}
+use Rattle.contents.specs.Names.{name-as-matched}
+use Rattle.contents.specs.Values.{reduced, values-of}
 use Rattle.request.specs.Places.{head-of, field-parts, request-of, Placed}
 use Rattle.request.specs.Request.{Field}
 use Rattle.request.specs.declared.FieldParts.{FieldParts}

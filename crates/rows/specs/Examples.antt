@@ -89,6 +89,13 @@ examples =
     ∷ is (header-meets "From") "A b SIP/2.0\r\nx-from-id: a\r\nTo: b\r\n\r\n" true 2
     ∷ is (header-meets "^From$") "A b SIP/2.0\r\nX-From-Id: a\r\n\r\n" false 1
     ∷ isn't (header-meets "From") "A b SIP/2.0\r\n\r\n" true 0
+    -- a short name is the long one, and is not tried as written
+    ∷ is (header-meets "^From$") "A b SIP/2.0\r\nf: a\r\n\r\n" true 1
+    ∷ is (header-meets "om$") "A b SIP/2.0\r\nF : a\r\n\r\n" true 1
+    ∷ is (header-meets "^f$") "A b SIP/2.0\r\nf: a\r\n\r\n" false 1
+    ∷ isn't (header-meets "^.$") "A b SIP/2.0\r\nf: a\r\nT: b\r\n\r\n" true 2
+    ∷ is (header-holds "From" "joe") "A b SIP/2.0\r\nf: ann\r\nFrom: joe\r\n\r\n" true 4
+    ∷ is (header-holds "Subject" "a, b") "A b SIP/2.0\r\ns: a, b\r\n\r\n" true 2
     -- "The row fits only if no value matches"; every value is a trial
     ∷ is (header-holds "From" "joe") "A b SIP/2.0\r\nFrom: joe, ann\r\n\r\n" true 3
     ∷ isn't (header-holds "From" "joe") "A b SIP/2.0\r\nFrom: joe, ann\r\n\r\n" false 3

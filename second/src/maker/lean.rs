@@ -8,7 +8,6 @@ const METHODS: &[&str] = &["INVITE", "MESSAGE", "SUBSCRIBE", "BYE", "invite", "X
 const NAMES: &[&str] = &[
     "From",
     "To",
-    "f",
     "FROM",
     "X-From-Id",
     "Contact",
@@ -18,11 +17,20 @@ const NAMES: &[&str] = &[
     "Authorization",
     "proxy-authenticate",
     "WWW-Authenticate",
-    "s",
     "Via",
     "a`b",
     "Accept",
+    "Call-ID",
+    "Content-Type",
+    "Supported",
 ];
+/// Mostly names that become long ones; some that only look so.
+const SHORT_NAMES: &[&str] = &[
+    "i", "m", "e", "l", "c", "f", "s", "k", "t", "v", "f", "s", "I", "M", "E", "L", "C", "F", "S", "K", "T",
+    "V", "o", "u", "r", "x", "j", "ff", "s-", "-t",
+];
+/// Header patterns that a short name met before it became a long one.
+const SHORT_PATTERNS: &[&str] = &["^.$", "^f$", "^s$", "^[a-z]$", "^[imeclfsktv]$", "^[^f]$"];
 const PIECES: &[&[u8]] = &[
     b"joe",
     b"ann",
@@ -84,7 +92,8 @@ pub fn request(random: &mut Random, method: &[u8]) -> Vec<u8> {
 }
 
 fn field(random: &mut Random, out: &mut Vec<u8>) {
-    out.extend(random.pick(NAMES).bytes());
+    let names = if random.chance(1, 3) { SHORT_NAMES } else { NAMES };
+    out.extend(random.pick(names).bytes());
     out.extend(random.pick(&["", "", "", " ", "\t "]).bytes());
     out.push(b':');
     for place in 0..random.below(4) {
@@ -188,7 +197,10 @@ fn header_row(random: &mut Random, draft: &mut Draft, request: &Request) -> RowD
     if random.chance(1, 3) {
         name.make_ascii_uppercase();
     }
-    let name = pattern(random, &name);
+    let name = match random.chance(1, 12) {
+        true => random.pick(SHORT_PATTERNS).as_bytes().to_vec(),
+        false => pattern(random, &name),
+    };
     let content = random.chance(2, 3).then(|| {
         let value = random.pick(&field.values).clone();
         pattern(random, &value)

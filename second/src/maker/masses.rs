@@ -74,12 +74,13 @@ fn requests() -> Vec<Case> {
         draft.text_row(2, b"^X$", Some(b"^y y")),
         draft.text_row(4, b"a", Some(b"^$")),
         draft.text_row(2, b"Z", None),
+        draft.text_row(2, b"^[FS]", Some(b"y,y")),
     ];
     for (place, row) in rows.into_iter().enumerate() {
         draft.single(place as u32, row);
     }
     let image = draft.bytes();
-    let shapes: [(&str, &[u8], &[u8], &[u8]); 8] = [
+    let shapes: [(&str, &[u8], &[u8], &[u8]); 10] = [
         ("fields", b"", b"X:\r\n", b"\r\n"),
         ("folds", b"X:", b"\r\n y", b"\r\n\r\n"),
         ("blank folds", b"X:", b"\r\n\t", b"\r\n\r\n"),
@@ -88,6 +89,8 @@ fn requests() -> Vec<Case> {
         ("quoted commas", b"X:", b"\"\\\",\",", b"\r\n\r\n"),
         ("commas in <>", b"X:", b"<,\">,y,", b"\r\n\r\n"),
         ("never cut", b"Subject:", b"y,", b"\r\n\r\n"),
+        ("never cut under s", b"s:", b"y,", b"\r\n\r\n"),
+        ("short names", b"", b"f:\r\nS:y,y\r\n", b"\r\n"),
     ];
     let mut cases = Vec::new();
     for (label, before, unit, after) in shapes {
@@ -98,7 +101,7 @@ fn requests() -> Vec<Case> {
             [start, unit.repeat(times), after.to_vec()].concat()
         };
         cases.push(build::advance(&label, &image, &request("INVITE"), READY));
-        cases.push(build::list(&label, &image, &request("REGISTER"), 0, 0, 4));
+        cases.push(build::list(&label, &image, &request("REGISTER"), 0, 0, 5));
     }
     cases
 }

@@ -98,8 +98,8 @@ fn on_names(label: &str, pattern: &[u8]) -> Case {
         "From",
         "FROM",
         "from",
-        "f",
-        "F",
+        "ff",
+        "FF",
         "X-From-Id",
         "Z",
         "`",
@@ -111,6 +111,8 @@ fn on_names(label: &str, pattern: &[u8]) -> Case {
         "-",
         "jo",
         "%",
+        "f",
+        "V",
     ];
     let mut request = b"INVITE sip:b SIP/2.0\r\n".to_vec();
     for (place, name) in names.iter().enumerate() {

@@ -37,15 +37,20 @@ pub const WRITTEN: &[&[u8]] = &[
     b"X: (a\\),b\r\n\r\n", b"X: < a ,  b >\r\n\r\n", b"X: \"a\"\"b,c\"\r\n\r\n",
     b"X: a\"b,c\"d,e\r\n\r\n", b"X: \"Joe, A\" <sip:joe@a;b=\"c,d\">;tag=1, <sip:b,c>\r\n\r\n",
     b"X: \"<\",\">\"\r\n\r\n", b"X: '<',b\r\n\r\n", b"X: \\<a,b>\r\n\r\n", b"X: <\"a,b\">,c\r\n\r\n",
-    // Names never cut (R12).
+    // Names never cut (R12, 1.3).
     b"Authorization: a,b\r\n\r\n", b"Proxy-Authorization: a,b\r\n\r\n",
     b"WWW-Authenticate: a,b\r\n\r\n", b"Proxy-Authenticate: a,b\r\n\r\n", b"Date: a,b\r\n\r\n",
     b"Subject: a,b\r\n\r\n", b"AUTHORIZATION: a,b\r\n\r\n", b"proxy-authorization: a,b\r\n\r\n",
     b"www-AUTHENTICATE: a,b\r\n\r\n", b"pROXY-aUTHENTICATE: a,b\r\n\r\n", b"DATE: a,b\r\n\r\n",
     b"subject : a , \"b\r\n\r\n", b"Subject:  a \t , \r\n b  \r\n\r\n", b"Subject:\r\n\r\n",
-    b"s: a,b\r\n\r\n", b"S: a,b\r\n\r\n", b"X-Subject: a,b\r\n\r\n", b"Subject-X: a,b\r\n\r\n",
+    b"s: a,b\r\n\r\n", b"S: a,b\r\n\r\n", b"s :  a \t , \r\n b  \r\n\r\n", b"ss: a,b\r\n\r\n",
+    b"X-Subject: a,b\r\n\r\n", b"Subject-X: a,b\r\n\r\n",
     b"Up-Date: a,b\r\n\r\n", b"Authentication-Info: a,b\r\n\r\n", b"Dat: a,b\r\n\r\n",
     b"Date: Sat, 13 Nov 2010\r\nSubject: a, b\r\nX: a, b\r\n\r\nv=0\r\n",
+    // Short names (1.1 to 1.7).
+    b"f: a,b\r\n\r\n", b"F : a\r\nFrom: b\r\n\r\n", b"v: a\r\nv: b\r\nVia: c\r\n\r\n", b"o: a,b\r\n\r\n",
+    b"f\r\n : a\r\n\r\n", b"s@: a,b\r\n\r\n", b"f g: a\r\n\r\n",
+    b"i:a\r\nm:a\r\ne:a\r\nl:a\r\nc:a\r\nf:a\r\ns:a\r\nk:a\r\nt:a\r\nv:a\r\n\r\ns=a\r\n",
     // Bodies (R13 to R16).
     b"\r\nv=0\no=1\n", b"\r\nv=0\ro=1\r", b"\r\nv=0\r\r\no=1\r\r", b"\r\nv=0\r",
     b"\r\n=x\r\n==y\r\n=\r\n", b"\r\na=\r\na=", b"\r\na\r\n=\r\nab=c\r\n\r\n\n",

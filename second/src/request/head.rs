@@ -1,5 +1,6 @@
 //! The head: start line and fields, line by line.
 
+use super::name;
 use super::value;
 use super::Field;
 use crate::token::{is_token, is_token_byte};
@@ -15,7 +16,10 @@ pub fn read(head: &[u8]) -> Option<Head> {
     let lines = split_lines(head)?;
     let (start, rest) = lines.split_first()?;
     let (method, uri) = start_line(start)?;
-    let fields = join_folds(rest)?.iter().map(|text| field(text)).collect::<Option<Vec<Field>>>()?;
+    let mut fields = join_folds(rest)?.iter().map(|text| field(text)).collect::<Option<Vec<Field>>>()?;
+    if twisted(Twist::EqualNamesJoined) {
+        fields = joined(fields);
+    }
     if twisted(Twist::FieldsNeeded) && fields.is_empty() {
         return None;
     }
@@ -126,15 +130,16 @@ fn join_folds(lines: &[&[u8]]) -> Option<Vec<Vec<u8>>> {
     Some(fields)
 }
 
-/// "Name token, any SP or HTAB, colon, value."
+/// "Name token, any SP or HTAB, colon, value." The blanks are no part of the name.
 fn field(text: &[u8]) -> Option<Field> {
     let colon = text.iter().position(|&byte| byte == b':')?;
     let before = &text[..colon];
-    let name: &[u8] = match twisted(Twist::NameKeepsBlanks) {
+    let written: &[u8] = match twisted(Twist::NameKeepsBlanks) {
         true => before,
         false => trim_end(before),
     };
-    if twisted(Twist::BlankBeforeColonRefused) && name.len() < before.len() {
+    let blanks = written.len() < before.len();
+    if twisted(Twist::BlankBeforeColonRefused) && blanks {
         return None;
     }
     let token = |byte: &u8| {
@@ -143,14 +148,35 @@ fn field(text: &[u8]) -> Option<Field> {
             || twisted(Twist::BlankInNameAccepted) && is_blank(*byte)
             || twisted(Twist::NameKeepsBlanks) && is_blank(*byte)
     };
-    if name.is_empty() && !twisted(Twist::NameMayBeEmpty) || !name.iter().all(token) {
+    if written.is_empty() && !twisted(Twist::NameMayBeEmpty) || !written.iter().all(token) {
         return None;
     }
     let raw = &text[colon + 1..];
     if twisted(Twist::HighByteNotInValue) && raw.iter().any(|&byte| byte >= 128) {
         return None;
     }
-    Some(Field { name: name.to_vec(), values: value::values(name, raw) })
+    let long = match twisted(Twist::ShortBeforeBlanksStays) && blanks {
+        true => written.to_vec(),
+        false => name::long(written),
+    };
+    let values = match twisted(Twist::NeverCutByWrittenName) {
+        true => value::values(written, raw),
+        false => value::values(&long, raw),
+    };
+    let name = if twisted(Twist::WrittenNameTriedToo) { written.to_vec() } else { long };
+    Some(Field { name, values })
+}
+
+/// Another way to read two fields of one name: as one field with the values of both.
+fn joined(fields: Vec<Field>) -> Vec<Field> {
+    let mut out: Vec<Field> = Vec::new();
+    for field in fields {
+        match out.iter_mut().find(|other| other.name.eq_ignore_ascii_case(&field.name)) {
+            Some(other) => other.values.extend(field.values),
+            None => out.push(field),
+        }
+    }
+    out
 }
 
 fn trim_end(text: &[u8]) -> &[u8] {

@@ -2,6 +2,7 @@
 
 mod body;
 mod head;
+pub mod name;
 mod value;
 
 use crate::twist::{twisted, Twist};
@@ -17,6 +18,7 @@ pub struct Request {
 /// A field of the head, with its values as they are matched.
 #[derive(Debug, PartialEq, Eq)]
 pub struct Field {
+    /// As it is matched, not as it is written.
     pub name: Vec<u8>,
     pub values: Vec<Vec<u8>>,
 }

@@ -2,7 +2,7 @@
 
 use crate::twist::{twisted, Twist};
 
-/// Names whose value is never cut, "in any case".
+/// Names whose value is never cut, "in any case": "the rule on fields never cut uses long names too".
 const NEVER_CUT: [(&str, Twist); 6] = [
     ("Authorization", Twist::AuthorizationCut),
     ("Proxy-Authorization", Twist::ProxyAuthorizationCut),
@@ -33,9 +33,6 @@ pub fn values(name: &[u8], raw: &[u8]) -> Vec<Vec<u8>> {
 }
 
 fn never_cut(name: &[u8]) -> bool {
-    if twisted(Twist::ShortSubjectNeverCut) && name.eq_ignore_ascii_case(b"s") {
-        return true;
-    }
     NEVER_CUT.iter().any(|&(listed, cut)| {
         let listed = listed.as_bytes();
         let same = match () {

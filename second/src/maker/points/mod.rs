@@ -3,6 +3,7 @@
 
 mod fitting;
 mod image;
+mod names;
 
 use super::boundaries::{pattern_image, shapes};
 use super::build::{self, advance, after, check, list, INVITE, READY, REGISTER};
@@ -15,6 +16,7 @@ pub fn cases() -> Vec<Case> {
     let mut cases = pattern_points();
     cases.extend(image::cases());
     cases.extend(request_points());
+    cases.extend(names::cases());
     cases.extend(fitting::cases());
     cases.extend(session_points());
     cases.extend(listing_points());
@@ -132,8 +134,10 @@ fn wrong_ways() -> Vec<Case> {
     draft.add_row(case_row(2), &[0]);
     draft.criterion(10, CNF, 2);
     let image = draft.bytes();
-    let heads: [&[u8]; 7] = [
+    let heads: [&[u8]; 9] = [
         b"From: joe\r\nFrom: ann\r\n",
+        b"f: joe\r\nFrom: ann\r\n",
+        b"f: ann\r\nt: joe\r\n",
         b"From: ann\r\nFrom: bob\r\n",
         b"From: joe, ann\r\n",
         b"From: ann\r\nTo: joe\r\n",
@@ -176,7 +180,14 @@ fn worked_trigger() -> Vec<Case> {
     for form in [DNF, CNF] {
         let image = trigger_of_000(form);
         for method in ["INVITE", "MESSAGE", "SUBSCRIBE", "BYE"] {
-            for field in ["From: joe\r\n", "From: \"joe\" <sip:j>\r\n", "From: ann\r\n", ""] {
+            for field in [
+                "From: joe\r\n",
+                "f: joe\r\n",
+                "From: \"joe\" <sip:j>\r\n",
+                "From: ann\r\n",
+                "F: ann\r\n",
+                "",
+            ] {
                 let request = format!("{method} sip:b SIP/2.0\r\n{field}\r\n");
                 cases.push(advance("the trigger of 000", &image, request.as_bytes(), READY));
             }

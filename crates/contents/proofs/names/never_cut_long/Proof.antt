@@ -1,7 +1,7 @@
 use borrow.Author.Needs.{needs}
 use Rattle.contents.proofs.Values.{never-any}
-use Rattle.contents.proofs.pieces.never_cut.Statement.{statement}
-use Rattle.contents.proofs.pieces.never_cut.Tie as tie
+use Rattle.contents.proofs.names.never_cut_long.Statement.{statement}
+use Rattle.contents.proofs.names.never_cut_long.Tie as tie
 
 slice-aggregate-same-letters : tie.Need-slice-aggregate-same-letters
 slice-aggregate-same-letters c = search needs
@@ -42,8 +42,8 @@ same-letters-requires-6 c κs = search needs
 returns : tie.Need-returns
 returns c = search never-any
 
-pub never-cut-spec : {M : Type 1} → statement M
-never-cut-spec =
+pub never-cut-long-spec : {M : Type 1} → statement M
+never-cut-long-spec =
     tie.close
     (tie.spec
     slice-aggregate-same-letters
