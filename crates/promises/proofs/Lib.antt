@@ -1,4 +1,5 @@
 pub mod Alike
+pub mod Asked
 pub mod AtMost
 pub mod Differing
 pub mod Listings
