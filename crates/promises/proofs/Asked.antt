@@ -3,27 +3,33 @@ use borrow.Author.Tests.{eq-eqb, ne-eqb, eqb-true, eqb-false}
 use mathlib.Core.Bool.{Bool, _&&_}
 use mathlib.Core.Option.{Option, none, some}
 use mathlib.Core.Path.{_≡_, refl, sym, ap, _∙_, subst, subst₂}
+use mathlib.Core.Logic.{_↔_}
 use Prim.Native.Nat.{ℕ, suc, _≤_, _<_}
 use native.Mathlib.Nat.{le-of-eq}
 use native.Mathlib.Omega.{arith}
 use mathlib.Core.List.{List, [], _∷_, List·Memᴰ, List·Memᴰ·head, List·Memᴰ·tail, List·Memᴰ·not-nil}
-use lib.Dec.{T, eqb}
+use lib.Dec.{T, leb, ltb, eqb, leb→le}
 use Rattle.octets.specs.Lists.{pick, same}
 use Rattle.octets.proofs.Tests.{T-of, left, right, by-test, test-cases}
 use Rattle.profile.specs.Image.{Criterion, Profile, Judged, accepted, refused}
 use Rattle.profile.specs.Judging.{judge}
+use Rattle.profile.proofs.Accepted.{accepted-sound}
 use Rattle.profile.proofs.Placed.{placed-low}
 use Rattle.request.specs.Request.{Request, read-request}
-use Rattle.session.specs.Session.{possible, ready, forwarded-to}
+use Rattle.session.specs.Session.{possible, ready, waiting, released, ended, forwarded-to, goes, stays, after-report, report-session}
 use Rattle.session.specs.declared.Session.{Session}
+use Rattle.session.specs.declared.Reported.{Reported}
 use Rattle.rows.specs.Rows.{REGISTER}
 use Rattle.fitting.specs.Fitting.{criterion-fits}
 use Rattle.order.specs.Order.{Numbered, numbered, priority}
+use Rattle.order.proofs.Rising.{numbered-apart}
+use Rattle.order.proofs.Sums.{unique}
 use Rattle.route.specs.Advance.{refuse, walk, in-session, advance-read, advance-judged, advance}
 use Rattle.route.specs.declared.Advanced.{Advanced}
 use Rattle.promises.specs.Walks.{Candidate, Answers, Answered, Forward, Routes, forwarding, routing}
-use Rattle.promises.specs.Passed.{Step, its-advance, its-report, after, its-refusal, Fits, Asks, ahead}
+use Rattle.promises.specs.Passed.{Step, its-advance, its-report, after, its-refusal, Fits, Asks, ahead, Turn, Became, sent-back, continued, terminated, final, not-told}
 use Rattle.promises.proofs.Next.{advance-answers}
+use Rattle.promises.proofs.Possible.{kept-parts}
 use Rattle.promises.proofs.Unchanged.{advance-unchanged}
 
 -- ---- an advance with no refusal has an accepted image and a readable request
@@ -204,3 +210,99 @@ module _ {s : Step} where
         above = t;
         fit = subst₂ (λ (q : Request) (p : Profile). T (criterion-fits q (in-session (s .session)) p (n .criterion))) g e (f .fit);
       }
+
+-- ---- "when a server's turn comes, the call goes to it exactly if its criterion fits the request as it is at that moment"
+
+module _ {s : Step} {n : Numbered} where
+  asks-turn : Asks s n → Turn s (priority n) × Fits s n
+  asks-turn a =
+      let k = asks-taken a in
+      let turn : Turn s (priority n) = record {
+        answered = k .not-refused;
+        above = k .candidate .above;
+        none-between = λ m f t lt. let le : priority n ≤ priority m = k .lowest m (fits-candidate (k .profile) (k .asked) (k .answers) f t) in omega arith;
+      } in
+      (turn, record {
+        profile = k .profile;
+        asked = k .asked;
+        accepts = k .answers .accepts;
+        reads = k .answers .reads;
+        member = k .candidate .member;
+        fit = k .candidate .fit;
+      })
+
+  -- of two that come at one priority in an accepted image, both are one
+  sent-turn : Turn s (priority n) → Fits s n → (f : Sent s) → Asks s n
+  sent-turn t f g =
+      let p = g .given .profile in
+      let c = fits-candidate p (g .given .asked) (g .given .answers) f (t .above) in
+      let m = g .forward .chosen-one in
+      let low : priority m ≤ priority n = g .forward .lowest n c in
+      let cand = g .forward .candidate in
+      let fits : Fits s m = record {
+        profile = p;
+        asked = g .given .asked;
+        accepts = g .given .answers .accepts;
+        reads = g .given .answers .reads;
+        member = cand .member;
+        fit = cand .fit;
+      } in
+      let not-below : priority m < priority n → ⊥ = t .none-between m fits (cand .above) in
+      let apart = numbered-apart 0 (p .criteria) (accepted-sound (s .image) p (g .given .answers .accepts) .distinct) in
+      let e : m ≡ n = unique (cand .member) (c .member) apart (omega arith) in
+      subst (Asks s) e (sent-asks g)
+
+  turn-asks : Turn s (priority n) → Fits s n → Came s → Asks s n
+  turn-asks t f (stuck k) = absurd (k .refused-here (t .answered))
+  turn-asks t f (done d) = absurd (d .routes .none-fits n (fits-candidate (d .given .profile) (d .given .asked) (d .given .answers) f (t .above)))
+  turn-asks t f (sent g) = sent-turn t f g
+
+  pub asked-exactly : Asks s n ↔ (Turn s (priority n) × Fits s n)
+  asked-exactly = (asks-turn, λ h. turn-asks (h .0) (h .1) (came s))
+
+-- ---- what became of it
+
+module _ {s : Step} {n : Numbered} (a : Asks s n) where
+  -- the session that waits for the report
+  waits : Session
+  waits = forwarded-to (s .session) (priority n) (n .criterion .handling)
+
+  -- what the report says, once its answer is known
+  abbrev Says : Reported → Type 0
+  Says r = its-report s ≡ r → Became s n
+
+  after-is : (r : Reported) → its-report s ≡ r → after s .state ≡ r .session .state
+  after-is r e = ap (λ (x : Session). x .state) (asks-taken a .same-session) ∙ ap (λ (r : Reported). r .session .state) e
+
+  refused-says : (k : ℕ) → (k ≡ 0 → ⊥) → Says (stays waits k)
+  unfolding waits
+  refused-says k some-number e = not-told (λ z. some-number (sym (ap (λ (r : Reported). r .refusal) e) ∙ z)) (after-is (stays waits k) e)
+
+  unreached-says : T (possible waits) → s .report ≡ 1 → Says (goes waits (pick (eqb (waits .handling) 0) ready released))
+  unfolding waits
+  unreached-says t one =
+      let h = n .criterion .handling in
+      by-test (λ (k : ℕ). Says (goes waits k)) (eqb h 0) ready released
+      (λ e w. continued one (eqb-true h 0 e) (after-is (goes waits ready) w))
+      (λ e w.
+      let le : h ≤ 1 = leb→le h 1 (right (ltb (priority n) 4294967296) (leb h 1) (kept-parts (s .session .case) waiting (priority n) h t .1)) in
+      let no : h ≡ 0 → ⊥ = eqb-false h 0 e in
+      terminated one (omega arith) (after-is (goes waits released) w))
+
+  told-says : T (possible waits) → Says (after-report (s .report) waits)
+  unfolding waits
+  told-says t =
+      let k = s .report in
+      let two : Reported = pick (eqb k 2) (goes waits ended) (stays waits 8) in
+      let one : Reported = pick (eqb k 1) (goes waits (pick (eqb (waits .handling) 0) ready released)) two in
+      by-test Says (eqb k 0) (goes waits ready) one (λ e w. sent-back (eqb-true k 0 e) (after-is (goes waits ready) w))
+      (λ e. by-test Says (eqb k 1) (goes waits (pick (eqb (waits .handling) 0) ready released)) two (λ f. unreached-says t (eqb-true k 1 f))
+      (λ f. by-test Says (eqb k 2) (goes waits ended) (stays waits 8) (λ g w. final (eqb-true k 2 g) (after-is (goes waits ended) w))
+      (λ g. refused-says 8 (λ z. omega arith))))
+
+  pub became : Became s n
+  unfolding report-session waits
+  became =
+      by-test Says (possible waits && eqb (waits .state) waiting) (after-report (s .report) waits) (stays waits 10)
+      (λ e. told-says (left (possible waits) (eqb (waits .state) waiting) (T-of e))) (λ e. refused-says 10 (λ z. omega arith))
+      (ap (λ (x : Session). report-session x (s .report)) (asks-taken a .session))
