@@ -76,9 +76,9 @@ advance-shrinks x image r p e =
     (refuse-shrinks x p 10 0)
 
 -- a report forwards nothing and keeps the last
-record Kept (x y : Session) : Type 0 where
-  same-forwarded : y .forwarded ≡ x .forwarded
-  same-last : y .last ≡ x .last
+pub record Kept (x y : Session) : Type 0 where
+  pub same-forwarded : y .forwarded ≡ x .forwarded
+  pub same-last : y .last ≡ x .last
 
 after-keeps : (n : ℕ) (x : Session) → Kept x (after-report n x .session)
 after-keeps n x =
@@ -90,7 +90,7 @@ after-keeps n x =
     (either P (eqb n 1) (goes x (pick (eqb (x .handling) 0) ready released)) two (k (pick (eqb (x .handling) 0) ready released))
     (either P (eqb n 2) (goes x ended) (stays x 8) (k ended) (k (x .state))))
 
-report-keeps : (x : Session) (n : ℕ) → Kept x (report-session x n .session)
+pub report-keeps : (x : Session) (n : ℕ) → Kept x (report-session x n .session)
 unfolding report-session
 report-keeps x n =
     either (λ (a : Reported). Kept x (a .session)) (possible x && eqb (x .state) waiting) (after-report n x) (stays x 10)

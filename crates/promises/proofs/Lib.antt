@@ -6,6 +6,7 @@ pub mod Listings
 pub mod Main
 pub mod Next
 pub mod OneAnswer
+pub mod PassedBy
 pub mod Possible
 pub mod Reach
 pub mod Refused

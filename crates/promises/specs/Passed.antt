@@ -77,6 +77,14 @@ pub record Asks (s : Step) (n : Numbered) : Type 0 where
   pub outcome : its-advance s .outcome ≡ 1
   pub number : its-advance s .number ≡ n .number
 
+-- a server is never asked in a walk
+abbrev pub NeverAsked : List Step → Numbered → Type 0
+NeverAsked w n = (s : Step) → List·Memᴰ s w → Asks s n → ⊥
+
+-- nor is any of this priority, whatever the image
+abbrev pub NoneAsked : List Step → ℕ → Type 0
+NoneAsked w k = (n : Numbered) → priority n ≡ k → NeverAsked w n
+
 -- a priority is still ahead: no server was asked yet, or the last one has a priority below it
 abbrev pub ahead : Session → ℕ → Bool
 ahead x k = eqb (x .forwarded) 0 || ltb (x .last) k

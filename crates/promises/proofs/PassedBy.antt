@@ -1,0 +1,112 @@
+-- In a walk that has come to its end, a criterion was never asked exactly if one of the ways past it was taken.
+use mathlib.Core.Bool.{_||_}
+use mathlib.Core.Path.{_≡_, refl, sym, ap, _∙_, subst, subst₂}
+use mathlib.Core.Logic.{_↔_}
+use Prim.Native.Nat.{ℕ, _≤_, _<_}
+use native.Mathlib.Omega.{arith}
+use mathlib.Core.List.{List, [], _∷_, List·Memᴰ, List·Memᴰ·head, List·Memᴰ·tail, List·Memᴰ·not-nil}
+use lib.Dec.{T, ltb, eqb, ltb→lt, lt→ltb}
+use borrow.Author.Tests.{ltb-true, ltb-false}
+use Rattle.octets.specs.Lists.{pick}
+use Rattle.octets.proofs.Tests.{or-left, or-right, or-cases, test-cases}
+use Rattle.session.specs.Session.{ready, released, ended, finished, with-state, unopened, open-session}
+use Rattle.session.specs.declared.Session.{Session}
+use Rattle.order.specs.Order.{Numbered, priority}
+use Rattle.promises.specs.Walks.{Candidate}
+use Rattle.promises.specs.Passed as passed
+use Rattle.promises.specs.Passed.{Step, its-advance, its-report, after, its-refusal, Walk, at-end, stopped, step-and, Fits, Asks, ahead, Turn, Became, NoneAsked, NeverAsked, WayPast}
+use Rattle.promises.proofs.Asked.{Came, stuck, done, sent, came, Sent, Done, Taken, sent-taken, sent-asks, asks-taken, asks-one, fits-candidate, asked-exactly, became}
+use Rattle.promises.proofs.AtMost.{report-keeps}
+use Rattle.promises.proofs.Unchanged.{open-unopened}
+
+-- ---- what is ahead of a session
+
+-- what is ahead, and all above it
+ahead-up : (x : Session) (j k : ℕ) → j < k → T (ahead x j) → T (ahead x k)
+ahead-up x j k lt t =
+    or-cases (eqb (x .forwarded) 0) (ltb (x .last) j) t (or-left (eqb (x .forwarded) 0) (ltb (x .last) k))
+    (λ u. let z : x .last < j = ltb→lt (x .last) j u in or-right (eqb (x .forwarded) 0) (ltb (x .last) k) (lt→ltb (x .last) k (omega arith)))
+
+-- it depends on two of the session's numbers
+ahead-same : (x y : Session) (k : ℕ) → y .forwarded ≡ x .forwarded → y .last ≡ x .last → T (ahead y k) → T (ahead x k)
+ahead-same x y k e f t = subst₂ (λ (a b : ℕ). T (eqb a 0 || ltb b k)) e f t
+
+module _ {s : Step} {n : Numbered} (h : Taken s n) where
+  -- the session keeps the priority of the server asked
+  kept-forwarded : after s .forwarded ≡ 1
+  kept-forwarded =
+      ap (λ (x : Session). x .forwarded) (h .same-session) ∙ report-keeps (its-advance s .session) (s .report) .same-forwarded
+      ∙ ap (λ (x : Session). x .forwarded) (h .session)
+
+  kept-last : after s .last ≡ priority n
+  kept-last =
+      ap (λ (x : Session). x .last) (h .same-session) ∙ report-keeps (its-advance s .session) (s .report) .same-last
+      ∙ ap (λ (x : Session). x .last) (h .session)
+
+  -- so that what is ahead then is above it
+  ahead-above : (k : ℕ) → T (ahead (after s) k) → priority n < k
+  ahead-above k t = ltb→lt (priority n) k (subst₂ (λ (a b : ℕ). T (eqb a 0 || ltb b k)) kept-forwarded kept-last t)
+
+  above-ahead : (k : ℕ) → priority n < k → T (ahead (after s) k)
+  above-ahead k lt = subst₂ (λ (a b : ℕ). T (eqb a 0 || ltb b k)) (sym kept-forwarded) (sym kept-last) (lt→ltb (priority n) k lt)
+
+-- nothing comes to be ahead
+ahead-by : (s : Step) (k : ℕ) → Came s → T (ahead (after s) k) → T (ahead (s .session) k)
+ahead-by s k (stuck h) t = subst (λ (x : Session). T (ahead x k)) (h .same-session) t
+ahead-by s k (done h) t = subst (λ (x : Session). T (ahead x k)) (h .leaves ∙ h .routes .session) t
+ahead-by s k (sent h) t =
+    let a = sent-taken h in
+    ahead-up (s .session) (priority (h .forward .chosen-one)) k (ahead-above a k t) (a .candidate .above)
+
+ahead-before : (s : Step) (k : ℕ) → T (ahead (after s) k) → T (ahead (s .session) k)
+ahead-before s k = ahead-by s k (came s)
+
+-- ---- along a walk
+
+module _ (k : ℕ) where
+  asks-ahead : {s : Step} {n : Numbered} → Asks s n → priority n ≡ k → T (ahead (s .session) k)
+  asks-ahead {s} a e = subst (λ (j : ℕ). T (ahead (s .session) j)) e (asks-taken a .candidate .above)
+
+  -- what is behind is not asked any more
+  behind-never : {x : Session} {w : List Step} → Walk x w → (T (ahead x k) → ⊥) → NoneAsked w k
+  behind-never (at-end h) b n e t d a = List·Memᴰ·not-nil d
+  behind-never (stopped s r h) b n e t (List·Memᴰ·head q) a = b (asks-ahead (subst (λ (u : Step). Asks u n) q a) e)
+  behind-never (stopped s r h) b n e t (List·Memᴰ·tail d) a = List·Memᴰ·not-nil d
+  behind-never (step-and s r h w) b n e t (List·Memᴰ·head q) a = b (asks-ahead (subst (λ (u : Step). Asks u n) q a) e)
+  behind-never (step-and s r h w) b n e t (List·Memᴰ·tail d) a = behind-never w (λ u. b (ahead-before s k u)) n e t d a
+
+  -- what is ahead at a step was ahead from the start
+  ahead-from : {x : Session} {w : List Step} → Walk x w → (s : Step) → List·Memᴰ s w → T (ahead (s .session) k) → T (ahead x k)
+  ahead-from (at-end h) s d t = absurd (List·Memᴰ·not-nil d)
+  ahead-from (stopped u r h) s (List·Memᴰ·head q) t = subst (λ (u : Step). T (ahead (u .session) k)) q t
+  ahead-from (stopped u r h) s (List·Memᴰ·tail d) t = absurd (List·Memᴰ·not-nil d)
+  ahead-from (step-and u r h w) s (List·Memᴰ·head q) t = subst (λ (u : Step). T (ahead (u .session) k)) q t
+  ahead-from (step-and u r h w) s (List·Memᴰ·tail d) t = ahead-before u k (ahead-from w s d t)
+
+  -- a step at which it was ahead and was not asked, and after which it is not ahead or the walk has come to its end
+  record Past (s : Step) : Type 0 where
+    was-ahead : T (ahead (s .session) k)
+    not-asked : (n : Numbered) → Asks s n → priority n ≡ k → ⊥
+    closed : its-refusal s ≡ 0 → after s .state ≡ ready → T (ahead (after s) k) → ⊥
+
+-- a walk with a step begins ready
+walk-ready : {x : Session} {w : List Step} → Walk x w → (s : Step) → List·Memᴰ s w → x .state ≡ ready
+walk-ready (at-end h) s d = absurd (List·Memᴰ·not-nil d)
+walk-ready (stopped u r h) s d = r
+walk-ready (step-and u r h w) s d = r
+
+module _ (k : ℕ) where
+  past-never : {x : Session} {w : List Step} → Walk x w → (s : Step) → List·Memᴰ s w → Past k s → NoneAsked w k
+  past-never (at-end h) s d p n e t i a = List·Memᴰ·not-nil d
+  past-never (stopped u r h) s (List·Memᴰ·head q) p n e t (List·Memᴰ·head i) a = p .not-asked n (subst (λ (u : Step). Asks u n) (i ∙ sym q) a) e
+  past-never (stopped u r h) s (List·Memᴰ·head q) p n e t (List·Memᴰ·tail i) a = List·Memᴰ·not-nil i
+  past-never (stopped u r h) s (List·Memᴰ·tail d) p n e t i a = List·Memᴰ·not-nil d
+  past-never (step-and u r h w) s (List·Memᴰ·head q) p n e t (List·Memᴰ·head i) a = p .not-asked n (subst (λ (u : Step). Asks u n) (i ∙ sym q) a) e
+  past-never (step-and u r h w) s (List·Memᴰ·head q) p n e t (List·Memᴰ·tail i) a =
+      let c = subst (Past k) q p .closed in
+      behind-never k w (c h (walk-ready w t i)) n e t i a
+  past-never (step-and u r h w) s (List·Memᴰ·tail d) p n e t (List·Memᴰ·head i) a =
+      let b = subst (λ (u : Step). Asks u n) i a in
+      let lt : priority n < k = ahead-above (asks-taken b) k (ahead-from k w s d (p .was-ahead)) in
+      omega arith
+  past-never (step-and u r h w) s (List·Memᴰ·tail d) p n e t (List·Memᴰ·tail i) a = past-never w s d p n e t i a
