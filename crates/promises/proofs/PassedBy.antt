@@ -110,3 +110,108 @@ module _ (k : ℕ) where
       let lt : priority n < k = ahead-above (asks-taken b) k (ahead-from k w s d (p .was-ahead)) in
       omega arith
   past-never (step-and u r h w) s (List·Memᴰ·tail d) p n e t (List·Memᴰ·tail i) a = past-never w s d p n e t i a
+
+-- ---- each way is such a step
+
+-- at a step that asks a server before it
+before-past : {k : ℕ} {s : Step} {n : Numbered} → Asks s n → priority n < k → (its-refusal s ≡ 0 → after s .state ≡ ready → ⊥) → Past k s
+before-past {k} {s} {n} a lt stops = record {
+  was-ahead = ahead-up (s .session) (priority n) k lt (asks-taken a .candidate .above);
+  not-asked = λ m b e. let q : priority n ≡ priority m = ap priority (asks-one a b) in omega arith;
+  closed = λ h r t. stops h r;
+}
+
+final-stops : {s : Step} {n : Numbered} → Asks s n → s .report ≡ 2 → its-refusal s ≡ 0 → after s .state ≡ ready → ⊥
+final-stops {s} {n} a two h r = go (became a)
+  where
+    go : Became s n → ⊥
+    go (passed.sent-back e x) = omega arith
+    go (passed.continued e d x) = omega arith
+    go (passed.terminated e d x) = omega arith
+    go (passed.final e x) = let z : _≡_ {A = ℕ} 4 0 = sym x ∙ r in omega arith
+    go (passed.not-told f x) = f (sym (asks-taken a .same-refusal) ∙ h)
+
+unreached-stops : {s : Step} {n : Numbered} → Asks s n → s .report ≡ 1 → n .criterion .handling ≡ 1 → its-refusal s ≡ 0 → after s .state ≡ ready → ⊥
+unreached-stops {s} {n} a one terminate h r = go (became a)
+  where
+    go : Became s n → ⊥
+    go (passed.sent-back e x) = omega arith
+    go (passed.continued e d x) = omega arith
+    go (passed.terminated e d x) = let z : _≡_ {A = ℕ} 3 0 = sym x ∙ r in omega arith
+    go (passed.final e x) = omega arith
+    go (passed.not-told f x) = f (sym (asks-taken a .same-refusal) ∙ h)
+
+-- where its turn came and it did not fit
+module _ {k : ℕ} {s : Step} (t : Turn s k) (unfit : (n : Numbered) → Fits s n → priority n ≡ k → ⊥) where
+  unfit-asks : (n : Numbered) → Asks s n → priority n ≡ k → ⊥
+  unfit-asks n a e = unfit n (asked-exactly .0 a .1) e
+
+  unfit-closed : Came s → its-refusal s ≡ 0 → after s .state ≡ ready → T (ahead (after s) k) → ⊥
+  unfit-closed (stuck h) z r u = h .refused-here (t .answered)
+  unfit-closed (done h) z r u =
+      let e : after s .state ≡ finished = ap (λ (x : Session). x .state) (h .leaves ∙ h .routes .session) in
+      let z : _≡_ {A = ℕ} 2 0 = sym e ∙ r in
+      omega arith
+  unfit-closed (sent h) z r u =
+      let n = h .forward .chosen-one in
+      t .none-between n (asked-exactly .0 (sent-asks h) .1) (h .forward .candidate .above) (ahead-above (sent-taken h) k u)
+
+  unfit-past : Past k s
+  unfit-past = record { was-ahead = t .above; not-asked = unfit-asks; closed = unfit-closed (came s) }
+
+refused-past : {k : ℕ} {s : Step} → T (ahead (s .session) k) → (its-advance s .refusal ≡ 0 → ⊥) → Came s → Past k s
+refused-past {k} {s} t f (stuck h) = record {
+  was-ahead = t;
+  not-asked = λ n a e. let z : _≡_ {A = ℕ} 0 1 = sym (h .idle) ∙ a .outcome in omega arith;
+  closed = λ z r u. f (sym (h .same-refusal) ∙ z);
+}
+refused-past t f (done h) = absurd (f (h .routes .counts .refusal))
+refused-past t f (sent h) = absurd (f (h .forward .counts .refusal))
+
+way-never : {case : ℕ} {w : List Step} {k : ℕ} → Walk (open-session case .session) w → WayPast case w k → NoneAsked w k
+way-never {k = k} v (passed.does-not-fit s d t unfit) = past-never k v s d (unfit-past t unfit)
+way-never {k = k} v (passed.final-response s d n a lt e) = past-never k v s d (before-past a lt (final-stops a e))
+way-never {k = k} v (passed.not-reached s d n a lt e h) = past-never k v s d (before-past a lt (unreached-stops a e h))
+way-never {case} v (passed.opening-refused f) = λ n e s d a.
+    let r : open-session case .session .state ≡ ready = walk-ready v s d in
+    let u : open-session case .session .state ≡ finished = ap (λ (x : Session). x .state) (open-unopened case f) in
+    let z : _≡_ {A = ℕ} 2 0 = sym u ∙ r in
+    omega arith
+way-never {k = k} v (passed.advance-refused s d t f) = past-never k v s d (refused-past t f (came s))
+way-never {k = k} v (passed.report-refused s d n a lt f) = past-never k v s d (before-past a lt (λ h r. f (sym (asks-taken a .same-refusal) ∙ h)))
+
+-- ---- where none is asked, one of the ways was taken
+
+module _ (case : ℕ) (all : List Step) (k : ℕ) where
+  -- its turn came at a step that asks a server after it
+  asked-after : {s : Step} (h : Sent s) → List·Memᴰ s all → T (ahead (s .session) k) → ((n : Numbered) → priority n ≡ k → Asks s n → ⊥)
+      → (priority (h .forward .chosen-one) < k → ⊥) → WayPast case all k
+  asked-after {s} h d t never no-less =
+      let m = h .forward .chosen-one in
+      let up : (n : Numbered) → Fits s n → T (ahead (s .session) (priority n)) → priority m ≤ priority n =
+      λ n f u. h .forward .lowest n (fits-candidate (h .given .profile) (h .given .asked) (h .given .answers) f u) in
+      passed.does-not-fit s d
+      (record { answered = h .forward .counts .refusal; above = t; none-between = λ n f u lt. let le = up n f u in omega arith })
+      (λ n f e.
+      let le = up n f (subst (λ (j : ℕ). T (ahead (s .session) j)) (sym e) t) in
+      never m (omega arith) (sent-asks h))
+
+  -- or that routes
+  asked-none : {s : Step} (h : Done s) → List·Memᴰ s all → T (ahead (s .session) k) → WayPast case all k
+  asked-none {s} h d t =
+      let none-fits : (n : Numbered) → Fits s n → T (ahead (s .session) (priority n)) → ⊥ =
+      λ n f u. h .routes .none-fits n (fits-candidate (h .given .profile) (h .given .asked) (h .given .answers) f u) in
+      passed.does-not-fit s d
+      (record { answered = h .routes .counts .refusal; above = t; none-between = λ n f u lt. none-fits n f u })
+      (λ n f e. none-fits n f (subst (λ (j : ℕ). T (ahead (s .session) j)) (sym e) t))
+
+  -- the walk ended at a server before it
+  ended-before : {s : Step} {n : Numbered} (a : Asks s n) → List·Memᴰ s all → priority n < k → its-refusal s ≡ 0 → (after s .state ≡ ready → ⊥) → WayPast case all k
+  ended-before {s} {n} a d lt z over = go (became a)
+    where
+      go : Became s n → WayPast case all k
+      go (passed.sent-back e x) = absurd (over x)
+      go (passed.continued e h x) = absurd (over x)
+      go (passed.terminated e h x) = passed.not-reached s d n a lt e h
+      go (passed.final e x) = passed.final-response s d n a lt e
+      go (passed.not-told f x) = absurd (f (sym (asks-taken a .same-refusal) ∙ z))
