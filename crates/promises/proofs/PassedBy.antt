@@ -5,16 +5,22 @@ use mathlib.Core.Logic.{_↔_}
 use Prim.Native.Nat.{ℕ, _≤_, _<_}
 use native.Mathlib.Omega.{arith}
 use mathlib.Core.List.{List, [], _∷_, List·Memᴰ, List·Memᴰ·head, List·Memᴰ·tail, List·Memᴰ·not-nil}
-use lib.Dec.{T, ltb, eqb, ltb→lt, lt→ltb}
+use lib.Dec.{T, leb, ltb, eqb, ltb→lt, lt→ltb}
 use borrow.Author.Tests.{ltb-true, ltb-false}
 use Rattle.octets.specs.Lists.{pick}
-use Rattle.octets.proofs.Tests.{or-left, or-right, or-cases, test-cases}
-use Rattle.session.specs.Session.{ready, released, ended, finished, with-state, unopened, open-session}
+use Rattle.octets.proofs.Tests.{or-left, or-right, or-cases, either, test-cases}
+use Rattle.profile.specs.Image.{Profile, accepted}
+use Rattle.profile.specs.Judging.{judge}
+use Rattle.profile.proofs.Accepted.{accepted-sound}
+use Rattle.session.specs.Session.{ready, released, ended, finished, with-state, fresh, unopened, open-session}
 use Rattle.session.specs.declared.Session.{Session}
-use Rattle.order.specs.Order.{Numbered, priority}
+use Rattle.session.specs.declared.Opened.{Opened}
+use Rattle.order.specs.Order.{Numbered, numbered, priority}
+use Rattle.order.proofs.Rising.{numbered-apart}
+use Rattle.order.proofs.Sums.{unique}
 use Rattle.promises.specs.Walks.{Candidate}
 use Rattle.promises.specs.Passed as passed
-use Rattle.promises.specs.Passed.{Step, its-advance, its-report, after, its-refusal, Walk, at-end, stopped, step-and, Fits, Asks, ahead, Turn, Became, NoneAsked, NeverAsked, WayPast}
+use Rattle.promises.specs.Passed.{Step, its-advance, its-report, after, its-refusal, Walk, at-end, stopped, step-and, Over, Fits, Asks, ahead, Turn, Became, NoneAsked, NeverAsked, WayPast}
 use Rattle.promises.proofs.Asked.{Came, stuck, done, sent, came, Sent, Done, Taken, sent-taken, sent-asks, asks-taken, asks-one, fits-candidate, asked-exactly, became}
 use Rattle.promises.proofs.AtMost.{report-keeps}
 use Rattle.promises.proofs.Unchanged.{open-unopened}
@@ -215,3 +221,82 @@ module _ (case : ℕ) (all : List Step) (k : ℕ) where
       go (passed.terminated e h x) = passed.not-reached s d n a lt e h
       go (passed.final e x) = passed.final-response s d n a lt e
       go (passed.not-told f x) = absurd (f (sym (asks-taken a .same-refusal) ∙ z))
+
+  -- a step that is refused
+  way-stopped : {s : Step} → List·Memᴰ s all → T (ahead (s .session) k) → ((n : Numbered) → priority n ≡ k → Asks s n → ⊥) → (its-refusal s ≡ 0 → ⊥) → Came s
+      → WayPast case all k
+  way-stopped {s} d t never f (stuck h) = passed.advance-refused s d t (h .refused-here)
+  way-stopped {s} d t never f (done h) = asked-none h d t
+  way-stopped {s} d t never f (sent h) =
+      let m = h .forward .chosen-one in
+      test-cases (ltb (priority m) k)
+      (λ e. passed.report-refused s d m (sent-asks h) (ltb-true (priority m) k e) (λ z. f (h .same-refusal ∙ z)))
+      (λ e. asked-after h d t never (λ lt. let ge = ltb-false (priority m) k e in omega arith))
+
+  -- a step that is not, with what the rest of the walk comes to
+  way-on : {s : Step} → List·Memᴰ s all → T (ahead (s .session) k) → ((n : Numbered) → priority n ≡ k → Asks s n → ⊥) → its-refusal s ≡ 0
+      → (T (ahead (after s) k) → ((after s .state ≡ ready → ⊥) → WayPast case all k) → WayPast case all k) → Came s → WayPast case all k
+  way-on d t never z rest (stuck h) = absurd (h .refused-here (sym (h .same-refusal) ∙ z))
+  way-on d t never z rest (done h) = asked-none h d t
+  way-on d t never z rest (sent h) =
+      let m = h .forward .chosen-one in
+      test-cases (ltb (priority m) k)
+      (λ e. let lt = ltb-true (priority m) k e in rest (above-ahead (sent-taken h) k lt) (λ over. ended-before (sent-asks h) d lt z over))
+      (λ e. asked-after h d t never (λ lt. let ge = ltb-false (priority m) k e in omega arith))
+
+  -- from a session on, with what it means if that is not ready
+  ways : {x : Session} {w : List Step} → Walk x w → ((s : Step) → List·Memᴰ s w → List·Memᴰ s all) → T (ahead x k) → NoneAsked w k
+      → ((x .state ≡ ready → ⊥) → WayPast case all k) → WayPast case all k
+  ways (at-end h) into t never over = over h
+  ways (stopped s r f) into t never over = way-stopped (into s (List·Memᴰ·head refl)) t (λ n e a. never n e s (List·Memᴰ·head refl) a) f (came s)
+  ways (step-and s r z w) into t never over =
+      way-on (into s (List·Memᴰ·head refl)) t (λ n e a. never n e s (List·Memᴰ·head refl) a) z
+      (λ u o. ways w (λ v i. into v (List·Memᴰ·tail i)) u (λ n e v i a. never n e v (List·Memᴰ·tail i) a) o) (came s)
+
+-- an opening that is not refused is ready, and has all ahead
+opened : (case : ℕ) → (open-session case .refusal ≡ 0) → open-session case .session ≡ fresh case
+unfolding open-session
+opened case =
+    either (λ (o : Opened). o .refusal ≡ 0 → o .session ≡ fresh case) (leb case 3) (record { refusal = 0; session = fresh case }) (record { refusal = 8; session = unopened })
+    (λ z. refl) (λ z. absurd (omega arith))
+
+all-ahead : (case k : ℕ) → T (ahead (open-session case .session) k)
+unfolding open-session
+all-ahead case k =
+    either (λ (o : Opened). T (ahead (o .session) k)) (leb case 3) (record { refusal = 0; session = fresh case }) (record { refusal = 8; session = unopened }) tt tt
+
+never-way : {case : ℕ} {w : List Step} {k : ℕ} → Walk (open-session case .session) w → NoneAsked w k → WayPast case w k
+never-way {case} {w} {k} v never =
+    ways case w k v (λ s d. d) (all-ahead case k) never (λ over. passed.opening-refused (λ z. over (ap (λ (x : Session). x .state) (opened case z))))
+
+-- over whatever images: none of this priority was asked exactly if ..
+pub none-asked-exactly : (case : ℕ) (w : List Step) → Walk (open-session case .session) w → (k : ℕ) → NoneAsked w k ↔ WayPast case w k
+none-asked-exactly case w v k = (never-way v, way-never v)
+
+-- over one image: a criterion of it was never asked exactly if ..
+pub passed-by-exactly : (image : List ℕ) (p : Profile) → judge image ≡ accepted p → (c : Numbered) → List·Memᴰ c (numbered 0 (p .criteria))
+    → (case : ℕ) (w : List Step) → Walk (open-session case .session) w → Over image w → NeverAsked w c ↔ WayPast case w (priority c)
+passed-by-exactly image p j c m case w v one =
+    (λ never. never-way v (λ n e s d a. never s d (subst (Asks s) (only-one s d n a e) a)), λ y s d a. way-never v y c refl s d a)
+  where
+    only-one : (s : Step) → List·Memᴰ s w → (n : Numbered) → Asks s n → priority n ≡ priority c → n ≡ c
+    only-one s d n a e =
+        let q : a .profile ≡ p = cc (a .accepts, j, one s d) in
+        unique (subst (λ (p : Profile). List·Memᴰ n (numbered 0 (p .criteria))) q (a .member)) m
+        (numbered-apart 0 (p .criteria) (accepted-sound image p j .distinct)) e
+
+-- ---- and at most once
+
+asked-behind : {u : Step} {w : List Step} → Walk (after u) w → (t : Step) (m n : Numbered) → List·Memᴰ t w → Asks u m → Asks t n → priority m ≡ priority n → ⊥
+asked-behind {u} w t m n i a b e =
+    behind-never (priority n) w (λ y. let lt : priority m < priority n = ahead-above (asks-taken a) (priority n) y in omega arith) n refl t i b
+
+pub asked-once : {x : Session} {w : List Step} → Walk x w → (s t : Step) (m n : Numbered) → List·Memᴰ s w → List·Memᴰ t w → Asks s m → Asks t n → priority m ≡ priority n → s ≡ t
+asked-once (at-end h) s t m n d i a b e = absurd (List·Memᴰ·not-nil d)
+asked-once (stopped u r h) s t m n (List·Memᴰ·head q) (List·Memᴰ·head p) a b e = q ∙ sym p
+asked-once (stopped u r h) s t m n (List·Memᴰ·tail d) i a b e = absurd (List·Memᴰ·not-nil d)
+asked-once (stopped u r h) s t m n (List·Memᴰ·head q) (List·Memᴰ·tail i) a b e = absurd (List·Memᴰ·not-nil i)
+asked-once (step-and u r h w) s t m n (List·Memᴰ·head q) (List·Memᴰ·head p) a b e = q ∙ sym p
+asked-once (step-and u r h w) s t m n (List·Memᴰ·head q) (List·Memᴰ·tail i) a b e = absurd (asked-behind w t m n i (subst (λ (u : Step). Asks u m) q a) b e)
+asked-once (step-and u r h w) s t m n (List·Memᴰ·tail d) (List·Memᴰ·head p) a b e = absurd (asked-behind w s n m d (subst (λ (u : Step). Asks u n) p b) a (sym e))
+asked-once (step-and u r h w) s t m n (List·Memᴰ·tail d) (List·Memᴰ·tail i) a b e = asked-once w s t m n d i a b e
