@@ -36,8 +36,8 @@ use Rattle.promises.proofs.Unchanged.{advance-unchanged}
 
 pub record Answering (x : Session) (image r : List ℕ) : Type 0 where
   pub profile : Profile
-  pub asked : Request
-  pub answers : Answers x image r profile asked
+  pub in-hand : Request
+  pub answers : Answers x image r profile in-hand
 
 abbrev IfAnswered : Session → List ℕ → List ℕ → Advanced → Type 0
 IfAnswered x image r a = a .refusal ≡ 0 → Answering x image r
@@ -48,7 +48,7 @@ module _ (x : Session) (image r : List ℕ) (t : T (possible x && eqb (x .state)
   read-answering p j (some q) e =
       by-test (IfAnswered x image r) (same (q .method) REGISTER) (refuse x 11 0) (walk x p q) (λ m h. absurd (omega arith)) (λ m h. record {
         profile = p;
-        asked = q;
+        in-hand = q;
         answers = record {
           can-be = left (possible x) (eqb (x .state) ready) t;
           is-ready = right (possible x) (eqb (x .state) ready) t;
@@ -78,12 +78,12 @@ pub record Stuck (s : Step) : Type 0 where
 
 pub record Done (s : Step) : Type 0 where
   pub given : Answering (s .session) (s .image) (s .request)
-  pub routes : Routes (s .session) (given .profile) (given .asked) (its-advance s)
+  pub routes : Routes (s .session) (given .profile) (given .in-hand) (its-advance s)
   pub leaves : after s ≡ its-advance s .session
 
 pub record Sent (s : Step) : Type 0 where
   pub given : Answering (s .session) (s .image) (s .request)
-  pub forward : Forward (s .session) (given .profile) (given .asked) (its-advance s)
+  pub forward : Forward (s .session) (given .profile) (given .in-hand) (its-advance s)
   pub same-refusal : its-refusal s ≡ its-report s .refusal
   pub same-session : after s ≡ its-report s .session
 
@@ -106,7 +106,7 @@ module _ (s : Step) where
       let t = ne-eqb (its-advance s .outcome) 1 n in
       (ap (λ (b : Bool). pick b (its-report s .refusal) (its-advance s .refusal)) t, ap (λ (b : Bool). pick b (its-report s .session) (its-advance s .session)) t)
 
-  came-answered : (g : Answering (s .session) (s .image) (s .request)) → Answered (s .session) (g .profile) (g .asked) (its-advance s) → Came s
+  came-answered : (g : Answering (s .session) (s .image) (s .request)) → Answered (s .session) (g .profile) (g .in-hand) (its-advance s) → Came s
   came-answered g (forwarding f) = let r = reports (f .outcome) in sent (record { given = g; forward = f; same-refusal = r .0; same-session = r .1 })
   came-answered g (routing f) =
       let r = no-report (λ e. let z : _≡_ {A = ℕ} 2 1 = sym (f .outcome) ∙ e in omega arith) in
@@ -122,7 +122,7 @@ module _ (s : Step) where
   came =
       test-cases (eqb (its-advance s .refusal) 0)
       (λ e. let g = answering (s .session) (s .image) (s .request) (eqb-true (its-advance s .refusal) 0 e) in
-      came-answered g (advance-answers (s .session) (s .image) (s .request) (g .profile) (g .asked) (g .answers)))
+      came-answered g (advance-answers (s .session) (s .image) (s .request) (g .profile) (g .in-hand) (g .answers)))
       (λ e. came-refused (λ z. eqb-false (its-advance s .refusal) 0 e z))
 
 -- ---- a number names one criterion
@@ -146,10 +146,10 @@ same-number i (c ∷ cs) (List·Memᴰ·tail d) (List·Memᴰ·tail e) q = same-
 -- what is known of it
 pub record Taken (s : Step) (n : Numbered) : Type 0 where
   pub profile : Profile
-  pub asked : Request
-  pub answers : Answers (s .session) (s .image) (s .request) profile asked
-  pub candidate : Candidate (s .session) profile asked n
-  pub lowest : (m : Numbered) → Candidate (s .session) profile asked m → priority n ≤ priority m
+  pub in-hand : Request
+  pub answers : Answers (s .session) (s .image) (s .request) profile in-hand
+  pub candidate : Candidate (s .session) profile in-hand n
+  pub lowest : (m : Numbered) → Candidate (s .session) profile in-hand m → priority n ≤ priority m
   pub session : its-advance s .session ≡ forwarded-to (s .session) (priority n) (n .criterion .handling)
   pub not-refused : its-advance s .refusal ≡ 0
   pub same-refusal : its-refusal s ≡ its-report s .refusal
@@ -159,7 +159,7 @@ module _ {s : Step} where
   pub sent-taken : (f : Sent s) → Taken s (f .forward .chosen-one)
   sent-taken f = record {
     profile = f .given .profile;
-    asked = f .given .asked;
+    in-hand = f .given .in-hand;
     answers = f .given .answers;
     candidate = f .forward .candidate;
     lowest = f .forward .lowest;
@@ -204,7 +204,7 @@ module _ {s : Step} where
       → Candidate (s .session) p q n
   fits-candidate {n} p q h f t =
       let e : f .profile ≡ p = cc (f .accepts, h .accepts) in
-      let g : f .asked ≡ q = cc (f .reads, h .reads) in
+      let g : f .in-hand ≡ q = cc (f .reads, h .reads) in
       record {
         member = subst (λ (p : Profile). List·Memᴰ n (numbered 0 (p .criteria))) e (f .member);
         above = t;
@@ -220,11 +220,11 @@ module _ {s : Step} {n : Numbered} where
       let turn : Turn s (priority n) = record {
         answered = k .not-refused;
         above = k .candidate .above;
-        none-between = λ m f t lt. let le : priority n ≤ priority m = k .lowest m (fits-candidate (k .profile) (k .asked) (k .answers) f t) in omega arith;
+        none-between = λ m f t lt. let le : priority n ≤ priority m = k .lowest m (fits-candidate (k .profile) (k .in-hand) (k .answers) f t) in omega arith;
       } in
       (turn, record {
         profile = k .profile;
-        asked = k .asked;
+        in-hand = k .in-hand;
         accepts = k .answers .accepts;
         reads = k .answers .reads;
         member = k .candidate .member;
@@ -235,13 +235,13 @@ module _ {s : Step} {n : Numbered} where
   sent-turn : Turn s (priority n) → Fits s n → (f : Sent s) → Asks s n
   sent-turn t f g =
       let p = g .given .profile in
-      let c = fits-candidate p (g .given .asked) (g .given .answers) f (t .above) in
+      let c = fits-candidate p (g .given .in-hand) (g .given .answers) f (t .above) in
       let m = g .forward .chosen-one in
       let low : priority m ≤ priority n = g .forward .lowest n c in
       let cand = g .forward .candidate in
       let fits : Fits s m = record {
         profile = p;
-        asked = g .given .asked;
+        in-hand = g .given .in-hand;
         accepts = g .given .answers .accepts;
         reads = g .given .answers .reads;
         member = cand .member;
@@ -254,7 +254,7 @@ module _ {s : Step} {n : Numbered} where
 
   turn-asks : Turn s (priority n) → Fits s n → Came s → Asks s n
   turn-asks t f (stuck k) = absurd (k .refused-here (t .answered))
-  turn-asks t f (done d) = absurd (d .routes .none-fits n (fits-candidate (d .given .profile) (d .given .asked) (d .given .answers) f (t .above)))
+  turn-asks t f (done d) = absurd (d .routes .none-fits n (fits-candidate (d .given .profile) (d .given .in-hand) (d .given .answers) f (t .above)))
   turn-asks t f (sent g) = sent-turn t f g
 
   pub asked-exactly : Asks s n ↔ (Turn s (priority n) × Fits s n)

@@ -2,6 +2,7 @@ pub mod Alike
 pub mod Asked
 pub mod AtMost
 pub mod Differing
+pub mod EachWay
 pub mod Listings
 pub mod Main
 pub mod Next

@@ -1,10 +1,11 @@
--- The page to open first: the three demands (README, "What is proved"), each a short statement whose proof cites where the work is.
--- They speak of the definitions; "one answer" says that the code's answers are these and no others.
+-- The page to open first: the regulator's question (README, "When"), then the three demands (README, "What is proved"), each a short
+-- statement whose proof cites where the work is. They speak of the definitions; "one answer" says that the code's answers are these and
+-- no others.
 use mathlib.Core.Bool.{Bool, true}
 use mathlib.Core.Path.{_≡_, sym, ap, _∙_}
 use mathlib.Core.Logic.{_↔_}
 use Prim.Native.Nat.{ℕ, _≤_, _<_, _^_}
-use mathlib.Core.List.{List}
+use mathlib.Core.List.{List, List·Memᴰ}
 use lib.ListN.{length, getElem?}
 use lib.Dec.{T, eqb}
 use mathlib.Core.Option.{none, some}
@@ -25,7 +26,7 @@ use Rattle.session.specs.declared.Session.{Session}
 use Rattle.session.specs.declared.Opened.{Opened}
 use Rattle.session.specs.declared.Reported.{Reported}
 use Rattle.rows.specs.declared.Given.{Given}
-use Rattle.order.specs.Order.{Numbered}
+use Rattle.order.specs.Order.{Numbered, numbered, priority}
 use Rattle.route.specs.Advance.{advance, Advances}
 use Rattle.route.specs.declared.Advanced.{Advanced}
 use Rattle.listing.specs.Listing.{Listing, listing, Lists}
@@ -36,20 +37,47 @@ use Rattle.promises.specs.Agreement.{MayDiffer, agreeing}
 use Rattle.promises.specs.Calls.{Call, Store, run, AllRelated}
 use Rattle.promises.specs.Common as common
 use Rattle.promises.specs.Marked as marked
+use Rattle.promises.specs.Passed.{Step, Walk, Over, Fits, Asks, NeverAsked, NoneAsked, Turn, Became, WayPast}
 use Rattle.promises.specs.Reached.{Reached}
 use Rattle.promises.specs.Refusals.{First, check-lines, open-lines, advance-lines, listing-lines, report-lines, lookup-lines, AdvanceUnchanged, ListingUnchanged, LookupEmpty}
 use Rattle.promises.specs.Walks.{Candidate, Answers, Answered, Listable, ListsAll, Move, forwards}
 use Rattle.promises.proofs.Alike as alike
+use Rattle.promises.proofs.Asked as asked
 use Rattle.promises.proofs.Differing.{invite, under, unasked-agree, short-agree, asked-differ}
 use Rattle.promises.proofs.OneAnswer as one
 use Rattle.promises.proofs.Sessions.{opens-fresh, report-answers}
 use Rattle.promises.proofs.AtMost.{at-most}
 use Rattle.promises.proofs.Listings.{lists-all}
 use Rattle.promises.proofs.Next.{route-iff, advance-answers}
+use Rattle.promises.proofs.PassedBy as passed-by
 use Rattle.promises.proofs.Reach as reach
 use Rattle.promises.proofs.Refused.{of-checked, of-opened, of-advanced, of-listing, of-reported, of-lookup, check-refusal, open-refusal, advance-refusal, listing-refusal, report-refusal, server-refusal, information-refusal}
 use Rattle.promises.proofs.Sequences.{run-same}
 use Rattle.promises.proofs.Unchanged as unchanged
+
+-- ---- "when exactly does a call not pass the recorder"
+
+-- in a walk over one image that has come to its end: a criterion's server was never asked exactly if one of the ways past it was taken
+pub passed-by-exactly : (image : List ℕ) (p : Profile) → judge image ≡ accepted p → (c : Numbered) → List·Memᴰ c (numbered 0 (p .criteria))
+    → (case : ℕ) (w : List Step) → Walk (open-session case .session) w → Over image w → NeverAsked w c ↔ WayPast case w (priority c)
+passed-by-exactly = passed-by.passed-by-exactly
+
+-- the same over several images, of each step's own: none of this priority was asked
+pub none-asked-exactly : (case : ℕ) (w : List Step) → Walk (open-session case .session) w → (k : ℕ) → NoneAsked w k ↔ WayPast case w k
+none-asked-exactly = passed-by.none-asked-exactly
+
+-- "when a server's turn comes, the call goes to it exactly if its criterion fits the request as it is at that moment"
+pub asked-exactly : (s : Step) (n : Numbered) → Asks s n ↔ (Turn s (priority n) × Fits s n)
+asked-exactly s n = asked.asked-exactly
+
+-- of a server that was asked: what became of it is what was reported, and its default where it was not reached
+pub asked-became : (s : Step) (n : Numbered) → Asks s n → Became s n
+asked-became s n = asked.became
+
+-- it was asked once: two steps of a walk that ask servers of one priority are the same step
+pub asked-once : {x : Session} {w : List Step} → Walk x w → (s t : Step) (m n : Numbered) → List·Memᴰ s w → List·Memᴰ t w
+    → Asks s m → Asks t n → priority m ≡ priority n → s ≡ t
+asked-once = passed-by.asked-once
 
 -- ---- demand 1: any bytes, any order, callers that checked nothing
 
@@ -123,7 +151,7 @@ report-leads-to = report-answers
 pub next-is-least : (x : Session) (image r : List ℕ) (p : Profile) (q : Request) → Answers x image r p q → Answered x p q (advance x image r)
 next-is-least = advance-answers
 
--- "when exactly does a call not pass": it is routed exactly if no criterion above the last fits
+-- normal routing: exactly if no criterion above the last fits
 pub route-iff-none-fits : (x : Session) (image r : List ℕ) (p : Profile) (q : Request) → Answers x image r p q
     → (advance x image r .outcome ≡ 2) ↔ ((n : Numbered) → Candidate x p q n → ⊥)
 route-iff-none-fits = route-iff
@@ -162,7 +190,7 @@ pub present-is-told : (image : List ℕ) (p : Profile) → judge image ≡ accep
     → (x : Stored) → c .info ≡ some x → information image i .present ≡ true
 present-is-told = information-told
 
--- ---- demand 3: nothing else in the message was read
+-- ---- demand 3: nothing else in two readable requests changes an answer
 
 pub advance-reads-no-more : (image a b : List ℕ) → MayDiffer image a b → (x : Session) → advance x image a ≡ advance x image b
 advance-reads-no-more = alike.advance-same

@@ -195,7 +195,7 @@ module _ (case : ℕ) (all : List Step) (k : ℕ) where
   asked-after {s} h d t never no-less =
       let m = h .forward .chosen-one in
       let up : (n : Numbered) → Fits s n → T (ahead (s .session) (priority n)) → priority m ≤ priority n =
-      λ n f u. h .forward .lowest n (fits-candidate (h .given .profile) (h .given .asked) (h .given .answers) f u) in
+      λ n f u. h .forward .lowest n (fits-candidate (h .given .profile) (h .given .in-hand) (h .given .answers) f u) in
       passed.does-not-fit s d
       (record { answered = h .forward .counts .refusal; above = t; none-between = λ n f u lt. let le = up n f u in omega arith })
       (λ n f e.
@@ -206,7 +206,7 @@ module _ (case : ℕ) (all : List Step) (k : ℕ) where
   asked-none : {s : Step} (h : Done s) → List·Memᴰ s all → T (ahead (s .session) k) → WayPast case all k
   asked-none {s} h d t =
       let none-fits : (n : Numbered) → Fits s n → T (ahead (s .session) (priority n)) → ⊥ =
-      λ n f u. h .routes .none-fits n (fits-candidate (h .given .profile) (h .given .asked) (h .given .answers) f u) in
+      λ n f u. h .routes .none-fits n (fits-candidate (h .given .profile) (h .given .in-hand) (h .given .answers) f u) in
       passed.does-not-fit s d
       (record { answered = h .routes .counts .refusal; above = t; none-between = λ n f u lt. none-fits n f u })
       (λ n f e. none-fits n f (subst (λ (j : ℕ). T (ahead (s .session) j)) (sym e) t))

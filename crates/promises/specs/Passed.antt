@@ -63,11 +63,11 @@ Over image w = (s : Step) → List·Memᴰ s w → s .image ≡ image
 -- the criterion fits the request then in hand
 pub record Fits (s : Step) (n : Numbered) : Type 0 where
   pub profile : Profile
-  pub asked : Request
+  pub in-hand : Request
   pub accepts : judge (s .image) ≡ accepted profile
-  pub reads : read-request (s .request) ≡ some asked
+  pub reads : read-request (s .request) ≡ some in-hand
   pub member : List·Memᴰ n (numbered 0 (profile .criteria))
-  pub fit : T (criterion-fits asked (in-session (s .session)) profile (n .criterion))
+  pub fit : T (criterion-fits in-hand (in-session (s .session)) profile (n .criterion))
 
 -- its server is asked: the request is forwarded there
 pub record Asks (s : Step) (n : Numbered) : Type 0 where
