@@ -94,28 +94,24 @@ pub data Came (s : Step) : Type 0 where
 
 module _ (s : Step) where
   -- after a forward, the report's answer; else the advance's
-  reports : its-advance s .outcome ≡ 1 → (its-refusal s ≡ its-report s .refusal) × (after s ≡ its-report s .session)
+  by-outcome : {b : Bool} → eqb (its-advance s .outcome) 1 ≡ b
+      → (its-refusal s ≡ pick b (its-report s .refusal) (its-advance s .refusal)) × (after s ≡ pick b (its-report s .session) (its-advance s .session))
   unfolding its-refusal after
-  reports e =
-      let t = eq-eqb (its-advance s .outcome) 1 e in
-      (ap (λ (b : Bool). pick b (its-report s .refusal) (its-advance s .refusal)) t, ap (λ (b : Bool). pick b (its-report s .session) (its-advance s .session)) t)
-
-  no-report : (its-advance s .outcome ≡ 1 → ⊥) → (its-refusal s ≡ its-advance s .refusal) × (after s ≡ its-advance s .session)
-  unfolding its-refusal after
-  no-report n =
-      let t = ne-eqb (its-advance s .outcome) 1 n in
-      (ap (λ (b : Bool). pick b (its-report s .refusal) (its-advance s .refusal)) t, ap (λ (b : Bool). pick b (its-report s .session) (its-advance s .session)) t)
+  by-outcome e = (
+    ap (λ (b : Bool). pick b (its-report s .refusal) (its-advance s .refusal)) e,
+    ap (λ (b : Bool). pick b (its-report s .session) (its-advance s .session)) e,
+  )
 
   came-answered : (g : Answering (s .session) (s .image) (s .request)) → Answered (s .session) (g .profile) (g .in-hand) (its-advance s) → Came s
-  came-answered g (forwarding f) = let r = reports (f .outcome) in sent (record { given = g; forward = f; same-refusal = r .0; same-session = r .1 })
+  came-answered g (forwarding f) = let r = by-outcome (eq-eqb (its-advance s .outcome) 1 (f .outcome)) in sent (record { given = g; forward = f; same-refusal = r .0; same-session = r .1 })
   came-answered g (routing f) =
-      let r = no-report (λ e. let z : _≡_ {A = ℕ} 2 1 = sym (f .outcome) ∙ e in omega arith) in
+      let r = by-outcome (ne-eqb (its-advance s .outcome) 1 (λ e. let z : _≡_ {A = ℕ} 2 1 = sym (f .outcome) ∙ e in omega arith)) in
       done (record { given = g; routes = f; leaves = r .1 })
 
   came-refused : (its-advance s .refusal ≡ 0 → ⊥) → Came s
   came-refused n =
       let u = advance-unchanged (s .session) (s .image) (s .request) n in
-      let r = no-report (λ e. let z : _≡_ {A = ℕ} 0 1 = sym (u .outcome) ∙ e in omega arith) in
+      let r = by-outcome (ne-eqb (its-advance s .outcome) 1 (λ e. let z : _≡_ {A = ℕ} 0 1 = sym (u .outcome) ∙ e in omega arith)) in
       stuck (record { refused-here = n; idle = u .outcome; same-refusal = r .0; same-session = r .1 ∙ u .session })
 
   pub came : Came s
@@ -178,30 +174,24 @@ module _ {s : Step} where
     number = f .forward .number;
   }
 
-  chosen-is : {n : Numbered} → Asks s n → (f : Sent s) → f .forward .chosen-one ≡ n
-  chosen-is {n} a f =
-      let e : f .given .profile ≡ a .profile = cc (f .given .answers .accepts, a .accepts) in
-      same-number 0 (a .profile .criteria)
-      (subst (λ (p : Profile). List·Memᴰ (f .forward .chosen-one) (numbered 0 (p .criteria))) e (f .forward .candidate .member))
-      (a .member) (sym (f .forward .number) ∙ a .number)
+  -- one step asks one server
+  pub asks-one : {m n : Numbered} → Asks s m → Asks s n → m ≡ n
+  asks-one {m} a b =
+      let e : a .profile ≡ b .profile = cc (a .accepts, b .accepts) in
+      same-number 0 (b .profile .criteria)
+      (subst (λ (p : Profile). List·Memᴰ m (numbered 0 (p .criteria))) e (a .member)) (b .member) (sym (a .number) ∙ b .number)
 
   asks-from : {n : Numbered} → Asks s n → Came s → Taken s n
   asks-from a (stuck k) = let z : _≡_ {A = ℕ} 0 1 = sym (k .idle) ∙ a .outcome in absurd (omega arith)
   asks-from a (done d) = let z : _≡_ {A = ℕ} 2 1 = sym (d .routes .outcome) ∙ a .outcome in absurd (omega arith)
-  asks-from a (sent f) = subst (Taken s) (chosen-is a f) (sent-taken f)
+  asks-from a (sent f) = subst (Taken s) (asks-one (sent-asks f) a) (sent-taken f)
 
   pub asks-taken : {n : Numbered} → Asks s n → Taken s n
   asks-taken a = asks-from a (came s)
 
-  -- one step asks one server
-  pub asks-one : {m n : Numbered} → Asks s m → Asks s n → m ≡ n
-  asks-one {m} {n} a b =
-      let e : a .profile ≡ b .profile = cc (a .accepts, b .accepts) in
-      same-number 0 (b .profile .criteria) (subst (λ (p : Profile). List·Memᴰ m (numbered 0 (p .criteria))) e (a .member)) (b .member) (sym (a .number) ∙ b .number)
-
-  -- what fits and is ahead is a candidate
-  pub fits-candidate : {n : Numbered} (p : Profile) (q : Request) → Answers (s .session) (s .image) (s .request) p q → Fits s n → T (ahead (s .session) (priority n))
-      → Candidate (s .session) p q n
+  -- what fits and is ahead is a candidate, and a candidate fits
+  pub fits-candidate : {n : Numbered} (p : Profile) (q : Request) → Answers (s .session) (s .image) (s .request) p q
+      → Fits s n → T (ahead (s .session) (priority n)) → Candidate (s .session) p q n
   fits-candidate {n} p q h f t =
       let e : f .profile ≡ p = cc (f .accepts, h .accepts) in
       let g : f .in-hand ≡ q = cc (f .reads, h .reads) in
@@ -211,46 +201,33 @@ module _ {s : Step} where
         fit = subst₂ (λ (q : Request) (p : Profile). T (criterion-fits q (in-session (s .session)) p (n .criterion))) g e (f .fit);
       }
 
+  candidate-fits : {n : Numbered} (p : Profile) (q : Request) → Answers (s .session) (s .image) (s .request) p q → Candidate (s .session) p q n → Fits s n
+  candidate-fits p q h c = record { profile = p; in-hand = q; accepts = h .accepts; reads = h .reads; member = c .member; fit = c .fit }
+
+  pub taken-fits : {n : Numbered} → Taken s n → Fits s n
+  taken-fits h = candidate-fits (h .profile) (h .in-hand) (h .answers) (h .candidate)
+
 -- ---- "when a server's turn comes, the call goes to it exactly if its criterion fits the request as it is at that moment"
 
 module _ {s : Step} {n : Numbered} where
-  asks-turn : Asks s n → Turn s (priority n) × Fits s n
-  asks-turn a =
-      let k = asks-taken a in
-      let turn : Turn s (priority n) = record {
-        answered = k .not-refused;
-        above = k .candidate .above;
-        none-between = λ m f t lt. let le : priority n ≤ priority m = k .lowest m (fits-candidate (k .profile) (k .in-hand) (k .answers) f t) in omega arith;
-      } in
-      (turn, record {
-        profile = k .profile;
-        in-hand = k .in-hand;
-        accepts = k .answers .accepts;
-        reads = k .answers .reads;
-        member = k .candidate .member;
-        fit = k .candidate .fit;
-      })
+  taken-turn : Taken s n → Turn s (priority n)
+  taken-turn h = record {
+    answered = h .not-refused;
+    above = h .candidate .above;
+    none-between = λ m f t lt. let le : priority n ≤ priority m = h .lowest m (fits-candidate (h .profile) (h .in-hand) (h .answers) f t) in omega arith;
+  }
 
-  -- of two that come at one priority in an accepted image, both are one
+  -- the server that is asked then has its priority, and in an accepted image no two have the same
   sent-turn : Turn s (priority n) → Fits s n → (f : Sent s) → Asks s n
   sent-turn t f g =
       let p = g .given .profile in
       let c = fits-candidate p (g .given .in-hand) (g .given .answers) f (t .above) in
       let m = g .forward .chosen-one in
+      let d = g .forward .candidate in
       let low : priority m ≤ priority n = g .forward .lowest n c in
-      let cand = g .forward .candidate in
-      let fits : Fits s m = record {
-        profile = p;
-        in-hand = g .given .in-hand;
-        accepts = g .given .answers .accepts;
-        reads = g .given .answers .reads;
-        member = cand .member;
-        fit = cand .fit;
-      } in
-      let not-below : priority m < priority n → ⊥ = t .none-between m fits (cand .above) in
+      let not-below : priority m < priority n → ⊥ = t .none-between m (taken-fits (sent-taken g)) (d .above) in
       let apart = numbered-apart 0 (p .criteria) (accepted-sound (s .image) p (g .given .answers .accepts) .distinct) in
-      let e : m ≡ n = unique (cand .member) (c .member) apart (omega arith) in
-      subst (Asks s) e (sent-asks g)
+      subst (Asks s) (unique (d .member) (c .member) apart (omega arith)) (sent-asks g)
 
   turn-asks : Turn s (priority n) → Fits s n → Came s → Asks s n
   turn-asks t f (stuck k) = absurd (k .refused-here (t .answered))
@@ -258,7 +235,7 @@ module _ {s : Step} {n : Numbered} where
   turn-asks t f (sent g) = sent-turn t f g
 
   pub asked-exactly : Asks s n ↔ (Turn s (priority n) × Fits s n)
-  asked-exactly = (asks-turn, λ h. turn-asks (h .0) (h .1) (came s))
+  asked-exactly = (λ a. let h = asks-taken a in (taken-turn h, taken-fits h), λ h. turn-asks (h .0) (h .1) (came s))
 
 -- ---- what became of it
 

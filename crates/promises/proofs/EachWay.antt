@@ -1,9 +1,9 @@
 -- Each way past a criterion, worked on one small image: the server of priority 1 has no trigger and its default is "terminated"; the
 -- recorder, of priority 2, is for INVITE.
-use mathlib.Core.Option.{none, some}
+use mathlib.Core.Option.{none}
 use mathlib.Core.Path.{_≡_, refl, sym, ap, _∙_, subst, subst₂}
 use mathlib.Core.Logic.{_⊎_, inl, inr}
-use Prim.Native.Nat.{ℕ, _<_}
+use Prim.Native.Nat.{ℕ}
 use Prim.Native.String.{String}
 use native.Mathlib.Omega.{arith}
 use mathlib.Core.List.{List, [], _∷_, _++_, List·Memᴰ, List·Memᴰ·head, List·Memᴰ·tail, List·Memᴰ·cases-cons, List·Memᴰ·eq-of-singleton}
@@ -11,7 +11,7 @@ use lib.Dec.{T}
 use Rattle.octets.specs.Lists.{text}
 use Rattle.profile.specs.Decoded.{profile-in}
 use Rattle.profile.specs.Examples.{row-of, member-of, criterion-of}
-use Rattle.profile.specs.Image.{Profile, accepted}
+use Rattle.profile.specs.Image.{Profile}
 use Rattle.profile.specs.Judging.{judge}
 use Rattle.profile.specs.Written.{written}
 use Rattle.request.specs.Request.{Request, read-request}
@@ -20,7 +20,7 @@ use Rattle.session.specs.declared.Session.{Session}
 use Rattle.fitting.specs.Fitting.{criterion-fits}
 use Rattle.order.specs.Order.{Numbered, numbered, priority}
 use Rattle.route.specs.Advance.{in-session, advance}
-use Rattle.promises.specs.Passed.{Step, its-advance, its-report, after, its-refusal, Walk, at-end, stopped, step-and, Fits, Asks, ahead, Turn, WayPast, does-not-fit, final-response, not-reached, opening-refused, advance-refused, report-refused}
+use Rattle.promises.specs.Passed.{Step, its-report, after, its-refusal, Walk, at-end, stopped, step-and, Fits, Asks, ahead, WayPast, does-not-fit, final-response, not-reached, opening-refused, advance-refused, report-refused}
 
 -- ---- the image and the requests
 
@@ -36,13 +36,31 @@ desk = written (record {
 pub first : Numbered
 first = record {
   number = 0;
-  criterion = record { priority = 1; part = 2; form = 2; first = 0; count = 0; server = record { start = 13; bytes = text "sip:a" }; handling = 1; info = none };
+  criterion = record {
+    priority = 1;
+    part = 2;
+    form = 2;
+    first = 0;
+    count = 0;
+    server = record { start = 13; bytes = text "sip:a" };
+    handling = 1;
+    info = none;
+  };
 }
 
 pub recorder : Numbered
 recorder = record {
   number = 1;
-  criterion = record { priority = 2; part = 2; form = 0; first = 0; count = 1; server = record { start = 20; bytes = text "sip:recorder" }; handling = 0; info = none };
+  criterion = record {
+    priority = 2;
+    part = 2;
+    form = 0;
+    first = 0;
+    count = 1;
+    server = record { start = 20; bytes = text "sip:recorder" };
+    handling = 0;
+    info = none;
+  };
 }
 
 -- a step of a session, with a method and a report
@@ -114,9 +132,12 @@ unfolding as-message goes step desk written first advance report-session after i
 by-not-fitting = record {
   walk = step-and (goes 0) refl refl (step-and as-message refl refl (at-end (λ e. let z : _≡_ {A = ℕ} 2 0 = e in omega arith)));
   way =
-    does-not-fit as-message (List·Memᴰ·tail (List·Memᴰ·head refl))
-        (record { answered = refl; above = tt; none-between = λ n f t lt. subst (λ (m : Numbered). T (ahead (as-message .session) (priority m))) (fits-first n f) t })
-        (λ n f e. let z : _≡_ {A = ℕ} 1 2 = sym (ap priority (fits-first n f)) ∙ e in omega arith);
+      does-not-fit as-message (List·Memᴰ·tail (List·Memᴰ·head refl)) (record {
+        answered = refl;
+        above = tt;
+        none-between = λ n f t lt. subst (λ (m : Numbered). T (ahead (as-message .session) (priority m))) (fits-first n f) t;
+      })
+      (λ n f e. let z : _≡_ {A = ℕ} 1 2 = sym (ap priority (fits-first n f)) ∙ e in omega arith);
 }
 
 -- ---- the library refused: a case of 4; a REGISTER; a report of 3

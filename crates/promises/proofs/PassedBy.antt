@@ -4,24 +4,22 @@ use mathlib.Core.Path.{_≡_, refl, sym, ap, _∙_, subst, subst₂}
 use mathlib.Core.Logic.{_↔_}
 use Prim.Native.Nat.{ℕ, _≤_, _<_}
 use native.Mathlib.Omega.{arith}
-use mathlib.Core.List.{List, [], _∷_, List·Memᴰ, List·Memᴰ·head, List·Memᴰ·tail, List·Memᴰ·not-nil}
+use mathlib.Core.List.{List, List·Memᴰ, List·Memᴰ·head, List·Memᴰ·tail, List·Memᴰ·not-nil, List·Memᴰ·eq-of-singleton}
 use lib.Dec.{T, leb, ltb, eqb, ltb→lt, lt→ltb}
 use borrow.Author.Tests.{ltb-true, ltb-false}
-use Rattle.octets.specs.Lists.{pick}
 use Rattle.octets.proofs.Tests.{or-left, or-right, or-cases, either, test-cases}
 use Rattle.profile.specs.Image.{Profile, accepted}
 use Rattle.profile.specs.Judging.{judge}
 use Rattle.profile.proofs.Accepted.{accepted-sound}
-use Rattle.session.specs.Session.{ready, released, ended, finished, with-state, fresh, unopened, open-session}
+use Rattle.session.specs.Session.{ready, ended, finished, fresh, unopened, open-session}
 use Rattle.session.specs.declared.Session.{Session}
 use Rattle.session.specs.declared.Opened.{Opened}
 use Rattle.order.specs.Order.{Numbered, numbered, priority}
 use Rattle.order.proofs.Rising.{numbered-apart}
 use Rattle.order.proofs.Sums.{unique}
-use Rattle.promises.specs.Walks.{Candidate}
 use Rattle.promises.specs.Passed as passed
-use Rattle.promises.specs.Passed.{Step, its-advance, its-report, after, its-refusal, Walk, at-end, stopped, step-and, Over, Fits, Asks, ahead, Turn, Became, NoneAsked, NeverAsked, WayPast}
-use Rattle.promises.proofs.Asked.{Came, stuck, done, sent, came, Sent, Done, Taken, sent-taken, sent-asks, asks-taken, asks-one, fits-candidate, asked-exactly, became}
+use Rattle.promises.specs.Passed.{Step, its-advance, after, its-refusal, Walk, at-end, stopped, step-and, Over, Fits, Asks, ahead, Turn, Became, NoneAsked, NeverAsked, WayPast}
+use Rattle.promises.proofs.Asked.{Came, stuck, done, sent, came, Sent, Done, Taken, sent-taken, sent-asks, asks-taken, asks-one, fits-candidate, taken-fits, became}
 use Rattle.promises.proofs.AtMost.{report-keeps}
 use Rattle.promises.proofs.Unchanged.{open-unopened}
 
@@ -32,10 +30,6 @@ ahead-up : (x : Session) (j k : ℕ) → j < k → T (ahead x j) → T (ahead x 
 ahead-up x j k lt t =
     or-cases (eqb (x .forwarded) 0) (ltb (x .last) j) t (or-left (eqb (x .forwarded) 0) (ltb (x .last) k))
     (λ u. let z : x .last < j = ltb→lt (x .last) j u in or-right (eqb (x .forwarded) 0) (ltb (x .last) k) (lt→ltb (x .last) k (omega arith)))
-
--- it depends on two of the session's numbers
-ahead-same : (x y : Session) (k : ℕ) → y .forwarded ≡ x .forwarded → y .last ≡ x .last → T (ahead y k) → T (ahead x k)
-ahead-same x y k e f t = subst₂ (λ (a b : ℕ). T (eqb a 0 || ltb b k)) e f t
 
 module _ {s : Step} {n : Numbered} (h : Taken s n) where
   -- the session keeps the priority of the server asked
@@ -76,16 +70,14 @@ module _ (k : ℕ) where
   -- what is behind is not asked any more
   behind-never : {x : Session} {w : List Step} → Walk x w → (T (ahead x k) → ⊥) → NoneAsked w k
   behind-never (at-end h) b n e t d a = List·Memᴰ·not-nil d
-  behind-never (stopped s r h) b n e t (List·Memᴰ·head q) a = b (asks-ahead (subst (λ (u : Step). Asks u n) q a) e)
-  behind-never (stopped s r h) b n e t (List·Memᴰ·tail d) a = List·Memᴰ·not-nil d
+  behind-never (stopped s r h) b n e t d a = b (asks-ahead (subst (λ (u : Step). Asks u n) (List·Memᴰ·eq-of-singleton d) a) e)
   behind-never (step-and s r h w) b n e t (List·Memᴰ·head q) a = b (asks-ahead (subst (λ (u : Step). Asks u n) q a) e)
   behind-never (step-and s r h w) b n e t (List·Memᴰ·tail d) a = behind-never w (λ u. b (ahead-before s k u)) n e t d a
 
   -- what is ahead at a step was ahead from the start
   ahead-from : {x : Session} {w : List Step} → Walk x w → (s : Step) → List·Memᴰ s w → T (ahead (s .session) k) → T (ahead x k)
   ahead-from (at-end h) s d t = absurd (List·Memᴰ·not-nil d)
-  ahead-from (stopped u r h) s (List·Memᴰ·head q) t = subst (λ (u : Step). T (ahead (u .session) k)) q t
-  ahead-from (stopped u r h) s (List·Memᴰ·tail d) t = absurd (List·Memᴰ·not-nil d)
+  ahead-from (stopped u r h) s d t = subst (λ (u : Step). T (ahead (u .session) k)) (List·Memᴰ·eq-of-singleton d) t
   ahead-from (step-and u r h w) s (List·Memᴰ·head q) t = subst (λ (u : Step). T (ahead (u .session) k)) q t
   ahead-from (step-and u r h w) s (List·Memᴰ·tail d) t = ahead-before u k (ahead-from w s d t)
 
@@ -104,9 +96,8 @@ walk-ready (step-and u r h w) s d = r
 module _ (k : ℕ) where
   past-never : {x : Session} {w : List Step} → Walk x w → (s : Step) → List·Memᴰ s w → Past k s → NoneAsked w k
   past-never (at-end h) s d p n e t i a = List·Memᴰ·not-nil d
-  past-never (stopped u r h) s (List·Memᴰ·head q) p n e t (List·Memᴰ·head i) a = p .not-asked n (subst (λ (u : Step). Asks u n) (i ∙ sym q) a) e
-  past-never (stopped u r h) s (List·Memᴰ·head q) p n e t (List·Memᴰ·tail i) a = List·Memᴰ·not-nil i
-  past-never (stopped u r h) s (List·Memᴰ·tail d) p n e t i a = List·Memᴰ·not-nil d
+  past-never (stopped u r h) s d p n e t i a =
+      p .not-asked n (subst (λ (u : Step). Asks u n) (List·Memᴰ·eq-of-singleton i ∙ sym (List·Memᴰ·eq-of-singleton d)) a) e
   past-never (step-and u r h w) s (List·Memᴰ·head q) p n e t (List·Memᴰ·head i) a = p .not-asked n (subst (λ (u : Step). Asks u n) (i ∙ sym q) a) e
   past-never (step-and u r h w) s (List·Memᴰ·head q) p n e t (List·Memᴰ·tail i) a =
       let c = subst (Past k) q p .closed in
@@ -150,7 +141,7 @@ unreached-stops {s} {n} a one terminate h r = go (became a)
 -- where its turn came and it did not fit
 module _ {k : ℕ} {s : Step} (t : Turn s k) (unfit : (n : Numbered) → Fits s n → priority n ≡ k → ⊥) where
   unfit-asks : (n : Numbered) → Asks s n → priority n ≡ k → ⊥
-  unfit-asks n a e = unfit n (asked-exactly .0 a .1) e
+  unfit-asks n a e = unfit n (taken-fits (asks-taken a)) e
 
   unfit-closed : Came s → its-refusal s ≡ 0 → after s .state ≡ ready → T (ahead (after s) k) → ⊥
   unfit-closed (stuck h) z r u = h .refused-here (t .answered)
@@ -160,7 +151,7 @@ module _ {k : ℕ} {s : Step} (t : Turn s k) (unfit : (n : Numbered) → Fits s 
       omega arith
   unfit-closed (sent h) z r u =
       let n = h .forward .chosen-one in
-      t .none-between n (asked-exactly .0 (sent-asks h) .1) (h .forward .candidate .above) (ahead-above (sent-taken h) k u)
+      t .none-between n (taken-fits (sent-taken h)) (h .forward .candidate .above) (ahead-above (sent-taken h) k u)
 
   unfit-past : Past k s
   unfit-past = record { was-ahead = t .above; not-asked = unfit-asks; closed = unfit-closed (came s) }
@@ -212,7 +203,8 @@ module _ (case : ℕ) (all : List Step) (k : ℕ) where
       (λ n f e. none-fits n f (subst (λ (j : ℕ). T (ahead (s .session) j)) (sym e) t))
 
   -- the walk ended at a server before it
-  ended-before : {s : Step} {n : Numbered} (a : Asks s n) → List·Memᴰ s all → priority n < k → its-refusal s ≡ 0 → (after s .state ≡ ready → ⊥) → WayPast case all k
+  ended-before : {s : Step} {n : Numbered} (a : Asks s n) → List·Memᴰ s all → priority n < k → its-refusal s ≡ 0 → (after s .state ≡ ready → ⊥)
+      → WayPast case all k
   ended-before {s} {n} a d lt z over = go (became a)
     where
       go : Became s n → WayPast case all k
@@ -257,13 +249,14 @@ module _ (case : ℕ) (all : List Step) (k : ℕ) where
 opened : (case : ℕ) → (open-session case .refusal ≡ 0) → open-session case .session ≡ fresh case
 unfolding open-session
 opened case =
-    either (λ (o : Opened). o .refusal ≡ 0 → o .session ≡ fresh case) (leb case 3) (record { refusal = 0; session = fresh case }) (record { refusal = 8; session = unopened })
-    (λ z. refl) (λ z. absurd (omega arith))
+    either (λ (o : Opened). o .refusal ≡ 0 → o .session ≡ fresh case) (leb case 3)
+    (record { refusal = 0; session = fresh case }) (record { refusal = 8; session = unopened }) (λ z. refl) (λ z. absurd (omega arith))
 
 all-ahead : (case k : ℕ) → T (ahead (open-session case .session) k)
 unfolding open-session
 all-ahead case k =
-    either (λ (o : Opened). T (ahead (o .session) k)) (leb case 3) (record { refusal = 0; session = fresh case }) (record { refusal = 8; session = unopened }) tt tt
+    either (λ (o : Opened). T (ahead (o .session) k)) (leb case 3)
+    (record { refusal = 0; session = fresh case }) (record { refusal = 8; session = unopened }) tt tt
 
 never-way : {case : ℕ} {w : List Step} {k : ℕ} → Walk (open-session case .session) w → NoneAsked w k → WayPast case w k
 never-way {case} {w} {k} v never =
@@ -291,12 +284,13 @@ asked-behind : {u : Step} {w : List Step} → Walk (after u) w → (t : Step) (m
 asked-behind {u} w t m n i a b e =
     behind-never (priority n) w (λ y. let lt : priority m < priority n = ahead-above (asks-taken a) (priority n) y in omega arith) n refl t i b
 
-pub asked-once : {x : Session} {w : List Step} → Walk x w → (s t : Step) (m n : Numbered) → List·Memᴰ s w → List·Memᴰ t w → Asks s m → Asks t n → priority m ≡ priority n → s ≡ t
+pub asked-once : {x : Session} {w : List Step} → Walk x w → (s t : Step) (m n : Numbered) → List·Memᴰ s w → List·Memᴰ t w
+    → Asks s m → Asks t n → priority m ≡ priority n → s ≡ t
 asked-once (at-end h) s t m n d i a b e = absurd (List·Memᴰ·not-nil d)
-asked-once (stopped u r h) s t m n (List·Memᴰ·head q) (List·Memᴰ·head p) a b e = q ∙ sym p
-asked-once (stopped u r h) s t m n (List·Memᴰ·tail d) i a b e = absurd (List·Memᴰ·not-nil d)
-asked-once (stopped u r h) s t m n (List·Memᴰ·head q) (List·Memᴰ·tail i) a b e = absurd (List·Memᴰ·not-nil i)
+asked-once (stopped u r h) s t m n d i a b e = List·Memᴰ·eq-of-singleton d ∙ sym (List·Memᴰ·eq-of-singleton i)
 asked-once (step-and u r h w) s t m n (List·Memᴰ·head q) (List·Memᴰ·head p) a b e = q ∙ sym p
-asked-once (step-and u r h w) s t m n (List·Memᴰ·head q) (List·Memᴰ·tail i) a b e = absurd (asked-behind w t m n i (subst (λ (u : Step). Asks u m) q a) b e)
-asked-once (step-and u r h w) s t m n (List·Memᴰ·tail d) (List·Memᴰ·head p) a b e = absurd (asked-behind w s n m d (subst (λ (u : Step). Asks u n) p b) a (sym e))
+asked-once (step-and u r h w) s t m n (List·Memᴰ·head q) (List·Memᴰ·tail i) a b e =
+    absurd (asked-behind w t m n i (subst (λ (u : Step). Asks u m) q a) b e)
+asked-once (step-and u r h w) s t m n (List·Memᴰ·tail d) (List·Memᴰ·head p) a b e =
+    absurd (asked-behind w s n m d (subst (λ (u : Step). Asks u n) p b) a (sym e))
 asked-once (step-and u r h w) s t m n (List·Memᴰ·tail d) (List·Memᴰ·tail i) a b e = asked-once w s t m n d i a b e
