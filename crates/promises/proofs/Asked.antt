@@ -1,5 +1,5 @@
 -- One step of a walk: how it comes out, when it asks a server, and what becomes of that.
-use borrow.Author.Tests.{eq-eqb, ne-eqb, eqb-true, eqb-false}
+use borrow.Author.Tests.{eq-eqb, ne-eqb, eqb-true, eqb-false, ltb-true, ltb-false}
 use mathlib.Core.Bool.{Bool, _&&_}
 use mathlib.Core.Option.{Option, none, some}
 use mathlib.Core.Path.{_≡_, refl, sym, ap, _∙_, subst, subst₂}
@@ -10,7 +10,7 @@ use native.Mathlib.Omega.{arith}
 use mathlib.Core.List.{List, [], _∷_, List·Memᴰ, List·Memᴰ·head, List·Memᴰ·tail, List·Memᴰ·not-nil}
 use lib.Dec.{T, leb, ltb, eqb, leb→le}
 use Rattle.octets.specs.Lists.{pick, same}
-use Rattle.octets.proofs.Tests.{T-of, left, right, by-test, test-cases}
+use Rattle.octets.proofs.Tests.{T-of, not-T-of, left, right, by-test, test-cases}
 use Rattle.profile.specs.Image.{Criterion, Profile, Judged, accepted, refused}
 use Rattle.profile.specs.Judging.{judge}
 use Rattle.profile.proofs.Accepted.{accepted-sound}
@@ -27,7 +27,7 @@ use Rattle.order.proofs.Sums.{unique}
 use Rattle.route.specs.Advance.{refuse, walk, in-session, advance-read, advance-judged, advance}
 use Rattle.route.specs.declared.Advanced.{Advanced}
 use Rattle.promises.specs.Walks.{Candidate, Answers, Answered, Forward, Routes, forwarding, routing}
-use Rattle.promises.specs.Passed.{Step, its-advance, its-report, after, its-refusal, Fits, Asks, ahead, Turn, Became, sent-back, continued, terminated, final, not-told}
+use Rattle.promises.specs.Passed.{Step, its-advance, its-report, after, its-refusal, Fits, Asks, ahead, Turn, PassedAt, not-above, not-fitting, another-asked, not-answered, Became, sent-back, continued, terminated, final, not-told}
 use Rattle.promises.proofs.Next.{advance-answers}
 use Rattle.promises.proofs.Possible.{kept-parts}
 use Rattle.promises.proofs.Unchanged.{advance-unchanged}
@@ -236,6 +236,47 @@ module _ {s : Step} {n : Numbered} where
 
   pub asked-exactly : Asks s n ↔ (Turn s (priority n) × Fits s n)
   asked-exactly = (λ a. let h = asks-taken a in (taken-turn h, taken-fits h), λ h. turn-asks (h .0) (h .1) (came s))
+
+-- ---- and if it is not asked, why
+
+-- the turn of a priority comes where a server after it is asked, or none
+pub turn-sent : {s : Step} {k : ℕ} (h : Sent s) → T (ahead (s .session) k) → (priority (h .forward .chosen-one) < k → ⊥) → Turn s k
+turn-sent {s} {k} h t no-less = record {
+  answered = h .forward .counts .refusal;
+  above = t;
+  none-between = λ n f u lt.
+      let le = h .forward .lowest n (fits-candidate (h .given .profile) (h .given .in-hand) (h .given .answers) f u) in
+      omega arith;
+}
+
+pub done-none : {s : Step} {n : Numbered} → Done s → Fits s n → T (ahead (s .session) (priority n)) → ⊥
+done-none {n = n} h f t = h .routes .none-fits n (fits-candidate (h .given .profile) (h .given .in-hand) (h .given .answers) f t)
+
+pub turn-done : {s : Step} {k : ℕ} → Done s → T (ahead (s .session) k) → Turn s k
+turn-done h t = record { answered = h .routes .counts .refusal; above = t; none-between = λ n f u lt. done-none h f u }
+
+module _ {s : Step} {n : Numbered} where
+  passed-ahead : (Asks s n → ⊥) → T (ahead (s .session) (priority n)) → Came s → PassedAt s n
+  passed-ahead never t (stuck h) = not-answered (h .refused-here)
+  passed-ahead never t (done h) = not-fitting (turn-done h t) (λ f. done-none h f t)
+  passed-ahead never t (sent h) =
+      let m = h .forward .chosen-one in
+      test-cases (ltb (priority m) (priority n)) (λ e. another-asked m (sent-asks h) (ltb-true (priority m) (priority n) e))
+      (λ e.
+      let turn = turn-sent h t (λ lt. let ge = ltb-false (priority m) (priority n) e in omega arith) in
+      not-fitting turn (λ f. never (asked-exactly .1 (turn, f))))
+
+  at-passed : PassedAt s n → Asks s n → ⊥
+  at-passed (not-above h) a = h (asks-taken a .candidate .above)
+  at-passed (not-fitting t h) a = h (taken-fits (asks-taken a))
+  at-passed (another-asked m b lt) a = let q : priority m ≡ priority n = ap priority (asks-one b a) in omega arith
+  at-passed (not-answered h) a = h (asks-taken a .not-refused)
+
+  pub passed-at-exactly : (Asks s n → ⊥) ↔ PassedAt s n
+  passed-at-exactly = (
+    λ never. test-cases (ahead (s .session) (priority n)) (λ e. passed-ahead never (T-of e) (came s)) (λ e. not-above (not-T-of e)),
+    at-passed,
+  )
 
 -- ---- what became of it
 

@@ -37,7 +37,7 @@ use Rattle.promises.specs.Agreement.{MayDiffer, agreeing}
 use Rattle.promises.specs.Calls.{Call, Store, run, AllRelated}
 use Rattle.promises.specs.Common as common
 use Rattle.promises.specs.Marked as marked
-use Rattle.promises.specs.Passed.{Step, Walk, Over, Fits, Asks, NeverAsked, NoneAsked, Turn, Became, WayPast}
+use Rattle.promises.specs.Passed.{Step, Walk, Over, Fits, Asks, NeverAsked, NoneAsked, Turn, PassedAt, Became, WayPast}
 use Rattle.promises.specs.Reached.{Reached}
 use Rattle.promises.specs.Refusals.{First, check-lines, open-lines, advance-lines, listing-lines, report-lines, lookup-lines, AdvanceUnchanged, ListingUnchanged, LookupEmpty}
 use Rattle.promises.specs.Walks.{Candidate, Answers, Answered, Listable, ListsAll, Move, forwards}
@@ -62,13 +62,17 @@ pub passed-by-exactly : (image : List ℕ) (p : Profile) → judge image ≡ acc
     → (case : ℕ) (w : List Step) → Walk (open-session case .session) w → Over image w → NeverAsked w c ↔ WayPast case w (priority c)
 passed-by-exactly = passed-by.passed-by-exactly
 
--- the same over several images, of each step's own: none of this priority was asked
+-- the same over several images: of each step's own, none of this priority was asked
 pub none-asked-exactly : (case : ℕ) (w : List Step) → Walk (open-session case .session) w → (k : ℕ) → NoneAsked w k ↔ WayPast case w k
 none-asked-exactly = passed-by.none-asked-exactly
 
 -- "when a server's turn comes, the call goes to it exactly if its criterion fits the request as it is at that moment"
 pub asked-exactly : (s : Step) (n : Numbered) → Asks s n ↔ (Turn s (priority n) × Fits s n)
 asked-exactly s n = asked.asked-exactly
+
+-- and if it does not, it is for one of these reasons
+pub passed-at-exactly : (s : Step) (n : Numbered) → (Asks s n → ⊥) ↔ PassedAt s n
+passed-at-exactly s n = asked.passed-at-exactly
 
 -- of a server that was asked: what became of it is what was reported, and its default where it was not reached
 pub asked-became : (s : Step) (n : Numbered) → Asks s n → Became s n

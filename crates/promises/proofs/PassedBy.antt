@@ -2,7 +2,7 @@
 use mathlib.Core.Bool.{_||_}
 use mathlib.Core.Path.{_≡_, refl, sym, ap, _∙_, subst, subst₂}
 use mathlib.Core.Logic.{_↔_}
-use Prim.Native.Nat.{ℕ, _≤_, _<_}
+use Prim.Native.Nat.{ℕ, _<_}
 use native.Mathlib.Omega.{arith}
 use mathlib.Core.List.{List, List·Memᴰ, List·Memᴰ·head, List·Memᴰ·tail, List·Memᴰ·not-nil, List·Memᴰ·eq-of-singleton}
 use lib.Dec.{T, leb, ltb, eqb, ltb→lt, lt→ltb}
@@ -19,7 +19,7 @@ use Rattle.order.proofs.Rising.{numbered-apart}
 use Rattle.order.proofs.Sums.{unique}
 use Rattle.promises.specs.Passed as passed
 use Rattle.promises.specs.Passed.{Step, its-advance, after, its-refusal, Walk, at-end, stopped, step-and, Over, Fits, Asks, ahead, Turn, Became, NoneAsked, NeverAsked, WayPast}
-use Rattle.promises.proofs.Asked.{Came, stuck, done, sent, came, Sent, Done, Taken, sent-taken, sent-asks, asks-taken, asks-one, fits-candidate, taken-fits, became}
+use Rattle.promises.proofs.Asked.{Came, stuck, done, sent, came, Sent, Done, Taken, sent-taken, sent-asks, asks-taken, asks-one, fits-candidate, taken-fits, turn-sent, turn-done, done-none, became}
 use Rattle.promises.proofs.AtMost.{report-keeps}
 use Rattle.promises.proofs.Unchanged.{open-unopened}
 
@@ -185,22 +185,15 @@ module _ (case : ℕ) (all : List Step) (k : ℕ) where
       → (priority (h .forward .chosen-one) < k → ⊥) → WayPast case all k
   asked-after {s} h d t never no-less =
       let m = h .forward .chosen-one in
-      let up : (n : Numbered) → Fits s n → T (ahead (s .session) (priority n)) → priority m ≤ priority n =
-      λ n f u. h .forward .lowest n (fits-candidate (h .given .profile) (h .given .in-hand) (h .given .answers) f u) in
-      passed.does-not-fit s d
-      (record { answered = h .forward .counts .refusal; above = t; none-between = λ n f u lt. let le = up n f u in omega arith })
-      (λ n f e.
-      let le = up n f (subst (λ (j : ℕ). T (ahead (s .session) j)) (sym e) t) in
+      passed.does-not-fit s d (turn-sent h t no-less) (λ n f e.
+      let u = subst (λ (j : ℕ). T (ahead (s .session) j)) (sym e) t in
+      let le = h .forward .lowest n (fits-candidate (h .given .profile) (h .given .in-hand) (h .given .answers) f u) in
       never m (omega arith) (sent-asks h))
 
   -- or that routes
   asked-none : {s : Step} (h : Done s) → List·Memᴰ s all → T (ahead (s .session) k) → WayPast case all k
   asked-none {s} h d t =
-      let none-fits : (n : Numbered) → Fits s n → T (ahead (s .session) (priority n)) → ⊥ =
-      λ n f u. h .routes .none-fits n (fits-candidate (h .given .profile) (h .given .in-hand) (h .given .answers) f u) in
-      passed.does-not-fit s d
-      (record { answered = h .routes .counts .refusal; above = t; none-between = λ n f u lt. none-fits n f u })
-      (λ n f e. none-fits n f (subst (λ (j : ℕ). T (ahead (s .session) j)) (sym e) t))
+      passed.does-not-fit s d (turn-done h t) (λ n f e. done-none h f (subst (λ (j : ℕ). T (ahead (s .session) j)) (sym e) t))
 
   -- the walk ended at a server before it
   ended-before : {s : Step} {n : Numbered} (a : Asks s n) → List·Memᴰ s all → priority n < k → its-refusal s ≡ 0 → (after s .state ≡ ready → ⊥)

@@ -95,6 +95,17 @@ pub record Turn (s : Step) (k : ℕ) : Type 0 where
   pub above : T (ahead (s .session) k)
   pub none-between : (n : Numbered) → Fits s n → T (ahead (s .session) (priority n)) → priority n < k → ⊥
 
+-- why a step does not ask the server of a criterion
+pub data PassedAt (s : Step) (n : Numbered) : Type 0 where
+  -- its priority is not above that of the last server asked: it was asked or passed over before, or "the host lent another profile"
+  not-above : (T (ahead (s .session) (priority n)) → ⊥) → PassedAt s n
+  -- its turn comes, and it does not fit
+  not-fitting : Turn s (priority n) → (Fits s n → ⊥) → PassedAt s n
+  -- a server before it is asked
+  another-asked : (m : Numbered) → Asks s m → priority m < priority n → PassedAt s n
+  -- the advance is refused
+  not-answered : (its-advance s .refusal ≡ 0 → ⊥) → PassedAt s n
+
 -- ---- what became of a server that was asked
 
 -- what was reported, and its default where it was not reached
