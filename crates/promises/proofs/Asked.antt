@@ -103,7 +103,9 @@ module _ (s : Step) where
   )
 
   came-answered : (g : Answering (s .session) (s .image) (s .request)) → Answered (s .session) (g .profile) (g .in-hand) (its-advance s) → Came s
-  came-answered g (forwarding f) = let r = by-outcome (eq-eqb (its-advance s .outcome) 1 (f .outcome)) in sent (record { given = g; forward = f; same-refusal = r .0; same-session = r .1 })
+  came-answered g (forwarding f) =
+      let r = by-outcome (eq-eqb (its-advance s .outcome) 1 (f .outcome)) in
+      sent (record { given = g; forward = f; same-refusal = r .0; same-session = r .1 })
   came-answered g (routing f) =
       let r = by-outcome (ne-eqb (its-advance s .outcome) 1 (λ e. let z : _≡_ {A = ℕ} 2 1 = sym (f .outcome) ∙ e in omega arith)) in
       done (record { given = g; routes = f; leaves = r .1 })

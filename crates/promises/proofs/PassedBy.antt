@@ -1,7 +1,7 @@
 -- In a walk that has come to its end, a criterion was never asked exactly if one of the ways past it was taken.
 use mathlib.Core.Bool.{_||_}
 use mathlib.Core.Path.{_≡_, refl, sym, ap, _∙_, subst, subst₂}
-use mathlib.Core.Logic.{_↔_}
+use mathlib.Core.Logic.{_↔_, _⊎_, inl, inr, ⊎-elim}
 use Prim.Native.Nat.{ℕ, _<_}
 use native.Mathlib.Omega.{arith}
 use mathlib.Core.List.{List, List·Memᴰ, List·Memᴰ·head, List·Memᴰ·tail, List·Memᴰ·not-nil, List·Memᴰ·eq-of-singleton}
@@ -63,6 +63,12 @@ ahead-before s k = ahead-by s k (came s)
 
 -- ---- along a walk
 
+-- a walk with a step begins ready
+walk-ready : {x : Session} {w : List Step} → Walk x w → (s : Step) → List·Memᴰ s w → x .state ≡ ready
+walk-ready (at-end h) s d = absurd (List·Memᴰ·not-nil d)
+walk-ready (stopped u r h) s d = r
+walk-ready (step-and u r h w) s d = r
+
 module _ (k : ℕ) where
   asks-ahead : {s : Step} {n : Numbered} → Asks s n → priority n ≡ k → T (ahead (s .session) k)
   asks-ahead {s} a e = subst (λ (j : ℕ). T (ahead (s .session) j)) e (asks-taken a .candidate .above)
@@ -87,24 +93,18 @@ module _ (k : ℕ) where
     not-asked : (n : Numbered) → Asks s n → priority n ≡ k → ⊥
     closed : its-refusal s ≡ 0 → after s .state ≡ ready → T (ahead (after s) k) → ⊥
 
--- a walk with a step begins ready
-walk-ready : {x : Session} {w : List Step} → Walk x w → (s : Step) → List·Memᴰ s w → x .state ≡ ready
-walk-ready (at-end h) s d = absurd (List·Memᴰ·not-nil d)
-walk-ready (stopped u r h) s d = r
-walk-ready (step-and u r h w) s d = r
-
-module _ (k : ℕ) where
-  past-never : {x : Session} {w : List Step} → Walk x w → (s : Step) → List·Memᴰ s w → Past k s → NoneAsked w k
+  -- is not asked before it, there, or after it
+  past-never : {x : Session} {w : List Step} → Walk x w → (s : Step) → List·Memᴰ s w → Past s → NoneAsked w k
   past-never (at-end h) s d p n e t i a = List·Memᴰ·not-nil d
   past-never (stopped u r h) s d p n e t i a =
       p .not-asked n (subst (λ (u : Step). Asks u n) (List·Memᴰ·eq-of-singleton i ∙ sym (List·Memᴰ·eq-of-singleton d)) a) e
   past-never (step-and u r h w) s (List·Memᴰ·head q) p n e t (List·Memᴰ·head i) a = p .not-asked n (subst (λ (u : Step). Asks u n) (i ∙ sym q) a) e
   past-never (step-and u r h w) s (List·Memᴰ·head q) p n e t (List·Memᴰ·tail i) a =
-      let c = subst (Past k) q p .closed in
-      behind-never k w (c h (walk-ready w t i)) n e t i a
+      let c = subst Past q p .closed in
+      behind-never w (c h (walk-ready w t i)) n e t i a
   past-never (step-and u r h w) s (List·Memᴰ·tail d) p n e t (List·Memᴰ·head i) a =
       let b = subst (λ (u : Step). Asks u n) i a in
-      let lt : priority n < k = ahead-above (asks-taken b) k (ahead-from k w s d (p .was-ahead)) in
+      let lt : priority n < k = ahead-above (asks-taken b) k (ahead-from w s d (p .was-ahead)) in
       omega arith
   past-never (step-and u r h w) s (List·Memᴰ·tail d) p n e t (List·Memᴰ·tail i) a = past-never w s d p n e t i a
 
@@ -118,25 +118,17 @@ before-past {k} {s} {n} a lt stops = record {
   closed = λ h r t. stops h r;
 }
 
-final-stops : {s : Step} {n : Numbered} → Asks s n → s .report ≡ 2 → its-refusal s ≡ 0 → after s .state ≡ ready → ⊥
-final-stops {s} {n} a two h r = go (became a)
+-- a session is ready again only after these reports
+ready-again : {s : Step} {n : Numbered} → Asks s n → its-refusal s ≡ 0 → after s .state ≡ ready
+    → (s .report ≡ 0) ⊎ ((s .report ≡ 1) × (n .criterion .handling ≡ 0))
+ready-again {s} {n} a z r = go (became a)
   where
-    go : Became s n → ⊥
-    go (passed.sent-back e x) = omega arith
-    go (passed.continued e d x) = omega arith
-    go (passed.terminated e d x) = omega arith
-    go (passed.final e x) = let z : _≡_ {A = ℕ} 4 0 = sym x ∙ r in omega arith
-    go (passed.not-told f x) = f (sym (asks-taken a .same-refusal) ∙ h)
-
-unreached-stops : {s : Step} {n : Numbered} → Asks s n → s .report ≡ 1 → n .criterion .handling ≡ 1 → its-refusal s ≡ 0 → after s .state ≡ ready → ⊥
-unreached-stops {s} {n} a one terminate h r = go (became a)
-  where
-    go : Became s n → ⊥
-    go (passed.sent-back e x) = omega arith
-    go (passed.continued e d x) = omega arith
-    go (passed.terminated e d x) = let z : _≡_ {A = ℕ} 3 0 = sym x ∙ r in omega arith
-    go (passed.final e x) = omega arith
-    go (passed.not-told f x) = f (sym (asks-taken a .same-refusal) ∙ h)
+    go : Became s n → (s .report ≡ 0) ⊎ ((s .report ≡ 1) × (n .criterion .handling ≡ 0))
+    go (passed.sent-back e x) = inl e
+    go (passed.continued e d x) = inr (e, d)
+    go (passed.terminated e d x) = let z : _≡_ {A = ℕ} 3 0 = sym x ∙ r in absurd (omega arith)
+    go (passed.final e x) = let z : _≡_ {A = ℕ} 4 0 = sym x ∙ r in absurd (omega arith)
+    go (passed.not-told f x) = absurd (f (sym (asks-taken a .same-refusal) ∙ z))
 
 -- where its turn came and it did not fit
 module _ {k : ℕ} {s : Step} (t : Turn s k) (unfit : (n : Numbered) → Fits s n → priority n ≡ k → ⊥) where
@@ -167,8 +159,10 @@ refused-past t f (sent h) = absurd (f (h .forward .counts .refusal))
 
 way-never : {case : ℕ} {w : List Step} {k : ℕ} → Walk (open-session case .session) w → WayPast case w k → NoneAsked w k
 way-never {k = k} v (passed.does-not-fit s d t unfit) = past-never k v s d (unfit-past t unfit)
-way-never {k = k} v (passed.final-response s d n a lt e) = past-never k v s d (before-past a lt (final-stops a e))
-way-never {k = k} v (passed.not-reached s d n a lt e h) = past-never k v s d (before-past a lt (unreached-stops a e h))
+way-never {k = k} v (passed.final-response s d n a lt e) =
+    past-never k v s d (before-past a lt (λ z r. ⊎-elim (λ q. omega arith) (λ q. omega arith) (ready-again a z r)))
+way-never {k = k} v (passed.not-reached s d n a lt e h) =
+    past-never k v s d (before-past a lt (λ z r. ⊎-elim (λ q. omega arith) (λ q. omega arith) (ready-again a z r)))
 way-never {case} v (passed.opening-refused f) = λ n e s d a.
     let r : open-session case .session .state ≡ ready = walk-ready v s d in
     let u : open-session case .session .state ≡ finished = ap (λ (x : Session). x .state) (open-unopened case f) in
