@@ -2,18 +2,16 @@
 use mathlib.Core.Bool.{Bool, true, false, _&&_}
 use mathlib.Core.Path.{_≡_, refl, sym, ap, _∙_}
 use mathlib.Core.List.{List, [], _∷_}
-use Prim.Native.Nat.{ℕ, zero, suc, _+_, _≤_, _<_}
+use Prim.Native.Nat.{ℕ, zero, suc, _+_, _-_, _≤_, _<_}
 use native.Mathlib.Nat.{zero-add, le-of-suc-le-suc, not-suc-le-zero}
 use native.Mathlib.Omega.{arith}
-use lib.Dec.{eqb}
-use lib.ListN.{length, getD}
+use lib.ListN.{length, getD, take, drop}
 use Rattle.octets.specs.Bytes.{lower, same-any-case}
 use Rattle.octets.specs.Lists.{text, pick}
 use Rattle.cuts.specs.Cutting.{begins}
 use Rattle.cuts.specs.Searching.{first}
 use Rattle.contents.specs.Names.{Short, short-names, long-by, name-as-matched}
-use Rattle.contents.specs.Steps.{place-in, short-place, long-at, long-name}
-use Rattle.contents.specs.Values.{never-cut}
+use Rattle.contents.specs.Steps.{place-in, short-place, long-at, long-name, long-names, long-starts}
 
 -- ---- the name as it is matched is the one at its place
 
@@ -41,14 +39,47 @@ long-past [] k w h = refl
 long-past (x ∷ xs) zero w h = absurd (not-suc-le-zero h)
 long-past (x ∷ xs) (suc k) w h = long-past xs k w (le-of-suc-le-suc h)
 
--- for callers: by the place that was found
+-- by the place that was found
 module _ (w : List ℕ) (k : ℕ) (ek : k ≡ short-place w) where
-  pub name-short : k < 10 → name-as-matched w ≡ long-name k
+  pub name-short : k < 10 → (r : List ℕ) → r ≡ long-name k → r ≡ name-as-matched w
   unfolding long-name
-  name-short h = name-there w ∙ sym (ap (λ (j : ℕ). long-at short-names j w) ek) ∙ long-within short-names k w [] h
+  name-short h r er = er ∙ sym (name-there w ∙ sym (ap (λ (j : ℕ). long-at short-names j w) ek) ∙ long-within short-names k w [] h)
 
-  pub name-written : 10 ≤ k → name-as-matched w ≡ w
-  name-written h = name-there w ∙ sym (ap (λ (j : ℕ). long-at short-names j w) ek) ∙ long-past short-names k w h
+  pub name-written : 10 ≤ k → w ≡ name-as-matched w
+  name-written h = sym (name-there w ∙ sym (ap (λ (j : ℕ). long-at short-names j w) ek) ∙ long-past short-names k w h)
+
+-- ---- the ten long names, written one after the other
+
+-- name k stands from where it begins to where the next does
+record Stands (k : ℕ) : Type 0 where
+  order : getD long-starts k 0 ≤ getD long-starts (k + 1) 0
+  inside : getD long-starts (k + 1) 0 ≤ 81
+  is : take (getD long-starts (k + 1) 0 - getD long-starts k 0) (drop (getD long-starts k 0) long-names) ≡ long-name k
+
+stands : (k : ℕ) → k < 10 → Stands k
+unfolding long-name
+stands zero h = record { order = omega arith; inside = omega arith; is = refl }
+stands (suc zero) h = record { order = omega arith; inside = omega arith; is = refl }
+stands (suc (suc zero)) h = record { order = omega arith; inside = omega arith; is = refl }
+stands (suc (suc (suc zero))) h = record { order = omega arith; inside = omega arith; is = refl }
+stands (suc (suc (suc (suc zero)))) h = record { order = omega arith; inside = omega arith; is = refl }
+stands (suc (suc (suc (suc (suc zero))))) h = record { order = omega arith; inside = omega arith; is = refl }
+stands (suc (suc (suc (suc (suc (suc zero)))))) h = record { order = omega arith; inside = omega arith; is = refl }
+stands (suc (suc (suc (suc (suc (suc (suc zero))))))) h = record { order = omega arith; inside = omega arith; is = refl }
+stands (suc (suc (suc (suc (suc (suc (suc (suc zero)))))))) h = record { order = omega arith; inside = omega arith; is = refl }
+stands (suc (suc (suc (suc (suc (suc (suc (suc (suc zero))))))))) h = record { order = omega arith; inside = omega arith; is = refl }
+stands (suc (suc (suc (suc (suc (suc (suc (suc (suc (suc k)))))))))) h = absurd (omega arith)
+
+module _ (k a e : ℕ) (h : k < 10) (ea : a ≡ getD long-starts k 0) (ee : e ≡ getD long-starts (k + 1) 0) where
+  pub long-order : a ≤ e
+  long-order = omega (arith, stands k h .order)
+
+  module _ (l : List ℕ) (el : l ≡ long-names) where
+    pub long-inside : e ≤ length l
+    long-inside = omega (arith, stands k h .inside, ap length el)
+
+    pub long-found : take (e - a) (drop a l) ≡ long-name k
+    long-found = (λ i. take (ee i - ea i) (drop (ea i) (el i))) ∙ stands k h .is
 
 -- ---- finding the place
 
@@ -68,26 +99,3 @@ unfolding short-place first
 place-one [] b k e eb ek = absurd (omega arith)
 place-one (c ∷ []) b k e eb ek = ek ∙ zero-add (first (begins (b ∷ [])) (text "imelcfsktv")) ∙ ap (λ (x : ℕ). first (begins (x ∷ [])) (text "imelcfsktv")) eb
 place-one (c ∷ d ∷ w) b k e eb ek = absurd (omega arith)
-
--- ---- never cut
-
--- of the ten only the one at place 6
-cut-at-place : (k : ℕ) → k < 10 → eqb k 6 ≡ never-cut (long-name k)
-unfolding long-name
-cut-at-place zero h = refl
-cut-at-place (suc zero) h = refl
-cut-at-place (suc (suc zero)) h = refl
-cut-at-place (suc (suc (suc zero))) h = refl
-cut-at-place (suc (suc (suc (suc zero)))) h = refl
-cut-at-place (suc (suc (suc (suc (suc zero))))) h = refl
-cut-at-place (suc (suc (suc (suc (suc (suc zero)))))) h = refl
-cut-at-place (suc (suc (suc (suc (suc (suc (suc zero))))))) h = refl
-cut-at-place (suc (suc (suc (suc (suc (suc (suc (suc zero)))))))) h = refl
-cut-at-place (suc (suc (suc (suc (suc (suc (suc (suc (suc zero))))))))) h = refl
-cut-at-place (suc (suc (suc (suc (suc (suc (suc (suc (suc (suc k)))))))))) h = absurd (omega arith)
-
-pub never-short : (w : List ℕ) (k : ℕ) → k ≡ short-place w → k < 10 → eqb k 6 ≡ never-cut (name-as-matched w)
-never-short w k ek h = cut-at-place k h ∙ sym (ap never-cut (name-short w k ek h))
-
-pub never-written : (w : List ℕ) (k : ℕ) → k ≡ short-place w → 10 ≤ k → (b : Bool) → b ≡ never-cut w → b ≡ never-cut (name-as-matched w)
-never-written w k ek h b eb = eb ∙ sym (ap never-cut (name-written w k ek h))

@@ -4,7 +4,7 @@ use mathlib.Core.List.{List, [], _∷_}
 use Prim.Native.Nat.{ℕ, zero, suc}
 use lib.Dec.{eqb}
 use Rattle.octets.specs.Bytes.{same-any-case}
-use Rattle.octets.specs.Lists.{pick, some-of}
+use Rattle.octets.specs.Lists.{text, pick, some-of}
 use Rattle.contents.specs.Body.{drop-cr}
 use Rattle.contents.specs.Names.{Short, short-names}
 use Rattle.contents.specs.Values.{Mode, plain, quoted, escaped, angle}
@@ -45,3 +45,10 @@ long-at (x ∷ xs) (suc k) written = long-at xs k written
 -- the long name at a place of the ten
 unfoldable pub long-name : ℕ → List ℕ
 long-name k = long-at short-names k []
+
+-- the ten long names, written one after the other; where each begins, and where the last ends
+abbrev pub long-names : List ℕ
+long-names = text "Call-IDContactContent-EncodingContent-LengthContent-TypeFromSubjectSupportedToVia"
+
+abbrev pub long-starts : List ℕ
+long-starts = 0 ∷ 7 ∷ 14 ∷ 30 ∷ 44 ∷ 56 ∷ 60 ∷ 67 ∷ 76 ∷ 78 ∷ 81 ∷ []

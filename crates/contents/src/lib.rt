@@ -5,8 +5,9 @@ mod names;
 mod pieces;
 
 pub use crate::body_lines::next_line;
+pub use crate::names::as_matched;
+pub use crate::names::long_names;
 pub use crate::names::never_cut;
-pub use crate::names::short_place;
 pub use crate::pieces::next_value;
 pub use crate::pieces::normalise;
 

@@ -7,7 +7,6 @@ use native.Mathlib.Omega.{arith}
 use lib.ListN.{length, take}
 use Rattle.cuts.specs.Parts.{over}
 use Rattle.contents.specs.Places.{values-from, piece-at}
-use Rattle.contents.specs.Names.{name-as-matched}
 use Rattle.contents.specs.Values.{reduced, never-cut, values-of}
 use Rattle.contents.specs.declared.Piece.{Piece}
 use Rattle.contents.proofs.Laws.{reduced-front}
@@ -45,12 +44,12 @@ module _ (v : List ℕ) where
 
 -- ---- by the name as it is matched
 
-module _ (written : List ℕ) (r : Bool) (e : r ≡ never-cut (name-as-matched written)) where
-  pub one-value : (raw : List ℕ) → r ≡ true → 1 ≡ length (values-of (name-as-matched written) (reduced raw))
-  one-value raw h = sym (ap length (values-whole (name-as-matched written) (reduced raw) (sym e ∙ h)))
+module _ (name : List ℕ) (r : Bool) (e : r ≡ never-cut name) where
+  pub one-value : (raw : List ℕ) → r ≡ true → 1 ≡ length (values-of name (reduced raw))
+  one-value raw h = sym (ap length (values-whole name (reduced raw) (sym e ∙ h)))
 
   pub pieces-counted : r ≡ false → (raw before room : List ℕ) (n : ℕ) → n ≡ length (reduced raw) → room ≡ over (reduced raw) before
-      → (m : ℕ) → m ≡ length (values-from (take (n - 0) room) 0) → m ≡ length (values-of (name-as-matched written) (reduced raw))
+      → (m : ℕ) → m ≡ length (values-from (take (n - 0) room) 0) → m ≡ length (values-of name (reduced raw))
   pieces-counted h raw before room n en er m em =
       em ∙ ap (λ (l : List ℕ). length (values-from l 0)) (reduced-front raw before room n en er)
-      ∙ sym (ap length (values-cut (name-as-matched written) (reduced raw) (sym e ∙ h)))
+      ∙ sym (ap length (values-cut name (reduced raw) (sym e ∙ h)))

@@ -72,10 +72,16 @@ module _ (s starts colons : List ℕ) (p : Places) (k : Placed s starts colons p
       pub value-short : length (part s (f .value) (f .end)) ≤ 65535
       value-short = omega (arith, length-part s (f .value) (f .end) value-order value-inside, value-inside, short s starts colons p k)
 
-      module _ (n : ℕ) (w : Fielding s i n) (r : ℕ)
-          (er : r ≡ length (values-of (name-as-matched (part s (f .name) (f .stop))) (reduced (part s (f .value) (f .end))))) where
+      module _ (name : List ℕ) (en : name ≡ name-as-matched (part s (f .name) (f .stop))) (n : ℕ) (w : Fielding s i n) (r : ℕ)
+          (er : r ≡ length (values-of name (reduced (part s (f .value) (f .end))))) where
         at-next : n + r + total values-in (drop (i + 1) (q .fields)) ≡ total values-in (q .fields)
-        at-next = omega (arith, w .sum q (read-q), ap (total values-in) (said .list), er)
+        at-next =
+            omega (
+              arith,
+              w .sum q (read-q),
+              ap (total values-in) (said .list),
+              er ∙ ap (λ (l : List ℕ). length (values-of l (reduced (part s (f .value) (f .end))))) en,
+            )
 
         pub fielding-next : Fielding s (i + 1) (n + r)
         fielding-next = record {

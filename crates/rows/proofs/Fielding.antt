@@ -1,6 +1,6 @@
 -- The loop over the fields.
 use mathlib.Core.Bool.{Bool, true, false, _||_}
-use mathlib.Core.Path.{_≡_, ap}
+use mathlib.Core.Path.{_≡_, ap, _∙_}
 use mathlib.Core.List.{List}
 use Prim.Native.Nat.{ℕ, _+_, _≤_, _<_}
 use native.Mathlib.Omega.{arith}
@@ -60,9 +60,6 @@ module _ (s starts colons : List ℕ) (p : Places) (k : Placed s starts colons p
     pub value-inside : f .end ≤ length s
     value-inside = inside
 
-    pub name-short : length (part s (f .name) (f .stop)) ≤ 65535
-    name-short = omega (arith, length-part s (f .name) (f .stop) name-order name-inside, name-inside, short s starts colons p k)
-
     pub value-short : length (part s (f .value) (f .end)) ≤ 65535
     value-short = omega (arith, length-part s (f .value) (f .end) value-order inside, inside, short s starts colons p k)
 
@@ -70,24 +67,22 @@ module _ (s starts colons : List ℕ) (p : Places) (k : Placed s starts colons p
     pub value-room : (room : List ℕ) → length s ≤ length room → length (part s (f .value) (f .end)) ≤ length room
     value-room room h = omega (arith, length-part s (f .value) (f .end) value-order inside, inside)
 
-    module _ (h : List ℕ) (with : Bool) (c : List ℕ) (fits : Bool) (trials : ℕ) (w : Fielding h with c s i fits trials) (r : Verdict)
-        (er : r ≡ item-row true h with c (name-as-matched (part s (f .name) (f .stop)))
-        (values-of (name-as-matched (part s (f .name) (f .stop))) (reduced (part s (f .value) (f .end))))) where
-      abbrev this : Field
-      this = record {
-        name = name-as-matched (part s (f .name) (f .stop));
-        values = values-of (name-as-matched (part s (f .name) (f .stop))) (reduced (part s (f .value) (f .end)));
-      }
+    module _ (name : List ℕ) (en : name ≡ name-as-matched (part s (f .name) (f .stop)))
+        (h : List ℕ) (with : Bool) (c : List ℕ) (fits : Bool) (trials : ℕ) (w : Fielding h with c s i fits trials) (r : Verdict)
+        (er : r ≡ item-row true h with c name (values-of name (reduced (part s (f .value) (f .end))))) where
+      abbrev this : List ℕ → Field
+      this n = record { name = n; values = values-of n (reduced (part s (f .value) (f .end))) }
 
-      row-is : r ≡ field-row h with c this
+      row-is : r ≡ field-row h with c (this (name-as-matched (part s (f .name) (f .stop))))
       unfolding field-row
-      row-is = er
+      row-is = er ∙ ap (λ (n : List ℕ). field-row h with c (this n)) en
 
       pub fielding-next : Fielding h with c s (i + 1) (fits || r .fits) (trials + r .trials)
       fielding-next = record {
         sweep =
             swept-next (λ f. field-row h with c f .fits) (λ f. field-row h with c f .trials) (drop i (request-of s .fields)) fits trials
-            (all-rows (field-row h with c) (request-of s .fields)) (w .sweep) this (drop (i + 1) (request-of s .fields)) (r .fits) (r .trials) (said .list)
+            (all-rows (field-row h with c) (request-of s .fields)) (w .sweep) (this (name-as-matched (part s (f .name) (f .stop))))
+            (drop (i + 1) (request-of s .fields)) (r .fits) (r .trials) (said .list)
             (ap (λ (u : Verdict). u .fits) row-is) (ap (λ (u : Verdict). u .trials) row-is);
       }
 

@@ -3,7 +3,6 @@ pub mod Fielding
 pub mod Items
 pub mod Lining
 pub mod Methods
-pub mod Naming
 pub mod Patterns
 pub mod Sweep
 pub mod Trials

@@ -51,7 +51,3 @@ patterns-row q in-body h with c = pick in-body (all-rows (line-row h with c) (re
 unfoldable pub test-row : Request → Given → Test → Verdict
 unfolding test-fits test-trials
 test-row q g t = record { fits = test-fits q g t; trials = test-trials q t }
-
--- where the ten long names begin, written one after the other, and where the last ends
-abbrev pub long-starts : List ℕ
-long-starts = 0 ∷ 7 ∷ 14 ∷ 30 ∷ 44 ∷ 56 ∷ 60 ∷ 67 ∷ 76 ∷ 78 ∷ 81 ∷ []

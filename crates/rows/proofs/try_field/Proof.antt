@@ -3,14 +3,14 @@ use Rattle.rows.proofs.Items.{item-no, item-bare, item-with}
 use Rattle.rows.proofs.try_field.Statement.{statement}
 use Rattle.rows.proofs.try_field.Tie as tie
 
-name-meets-requires : tie.Need-name-meets-requires
-name-meets-requires c κs = search needs
+test-requires : tie.Need-test-requires
+test-requires c κs = search needs
 
 returns : tie.Need-returns
-returns c = (search item-no, search needs)
+returns c = (search (item-no, c .before .test .ensures), search needs)
 
 returns-2 : tie.Need-returns-2
-returns-2 c = (search item-bare, search needs)
+returns-2 c = (search (item-bare, c .before .before .test .ensures), search needs)
 
 try-values-requires : tie.Need-try-values-requires
 try-values-requires c κs = search needs
@@ -22,13 +22,13 @@ same-length : tie.Need-same-length
 same-length c = search needs
 
 returns-3 : tie.Need-returns-3
-returns-3 c = (search item-with, search needs)
+returns-3 c = (search (item-with, c .before .before .before .before .before .before .before .test .ensures), search needs)
 
 pub try-field-spec : {M : Type 1} → statement M
 try-field-spec =
     tie.close
     (tie.spec
-    name-meets-requires
+    test-requires
     returns
     returns-2
     try-values-requires

@@ -8,10 +8,13 @@ use Rattle.probes.proofs.counts.count_all_values.Statement.{statement}
 use Rattle.probes.proofs.counts.count_all_values.Tie as tie
 
 abbrev Inv-loop : tie.InvT-loop
-Inv-loop s starts colons places room₀ fields n₀ i₀ room n i = Fielding s i n × (length room ≡ length room₀) × (length s ≤ length room)
+Inv-loop s starts colons places room₀ long fields n₀ i₀ room n i = Fielding s i n × (length room ≡ length room₀) × (length s ≤ length room)
 
 abbrev μ-loop : tie.MeasureT-loop
-μ-loop s starts colons places room₀ fields n₀ i₀ room n i = fields - i
+μ-loop s starts colons places room₀ long fields n₀ i₀ room n i = fields - i
+
+long-names-requires : tie.Need-long-names-requires Inv-loop μ-loop
+long-names-requires c κs = search needs
 
 loop-holds : tie.Need-loop-holds Inv-loop μ-loop
 loop-holds c = search (needs, fielding-first)
@@ -19,23 +22,29 @@ loop-holds c = search (needs, fielding-first)
 field-at-requires : tie.Need-field-at-requires Inv-loop μ-loop
 field-at-requires c κs = search needs
 
+sub-as-matched : tie.Need-sub-as-matched Inv-loop μ-loop
+sub-as-matched c = search (needs, name-order)
+
+part-as-matched-start : tie.Need-part-as-matched-start Inv-loop μ-loop
+part-as-matched-start c = search (needs, name-order)
+
+part-as-matched-end : tie.Need-part-as-matched-end Inv-loop μ-loop
+part-as-matched-end c = search (needs, name-inside)
+
+slice-aggregate-as-matched : tie.Need-slice-aggregate-as-matched Inv-loop μ-loop
+slice-aggregate-as-matched c = search needs
+
+as-matched-requires : tie.Need-as-matched-requires Inv-loop μ-loop
+as-matched-requires c κs = search needs
+
 sub-count-values : tie.Need-sub-count-values Inv-loop μ-loop
-sub-count-values c = search (needs, name-order)
+sub-count-values c = search (needs, value-order)
 
 part-count-values-start : tie.Need-part-count-values-start Inv-loop μ-loop
-part-count-values-start c = search (needs, name-order)
+part-count-values-start c = search (needs, value-order)
 
 part-count-values-end : tie.Need-part-count-values-end Inv-loop μ-loop
-part-count-values-end c = search (needs, name-inside)
-
-sub-count-values-2 : tie.Need-sub-count-values-2 Inv-loop μ-loop
-sub-count-values-2 c = search (needs, value-order)
-
-part-count-values-start-2 : tie.Need-part-count-values-start-2 Inv-loop μ-loop
-part-count-values-start-2 c = search (needs, value-order)
-
-part-count-values-end-2 : tie.Need-part-count-values-end-2 Inv-loop μ-loop
-part-count-values-end-2 c = search (needs, value-inside)
+part-count-values-end c = search (needs, value-inside)
 
 count-values-requires : tie.Need-count-values-requires Inv-loop μ-loop
 count-values-requires c κs = (search (needs, value-fits), search value-short)
@@ -64,14 +73,17 @@ count-all-values-spec =
     (tie.spec
     Inv-loop
     μ-loop
+    long-names-requires
     loop-holds
     field-at-requires
+    sub-as-matched
+    part-as-matched-start
+    part-as-matched-end
+    slice-aggregate-as-matched
+    as-matched-requires
     sub-count-values
     part-count-values-start
     part-count-values-end
-    sub-count-values-2
-    part-count-values-start-2
-    part-count-values-end-2
     count-values-requires
     add-n
     add-i
