@@ -17,7 +17,7 @@ use Rattle.octets.proofs.Bits.{shl-one, Mask, mask-none, mask-skip, mask-add}
 use Rattle.profile.specs.Image.{Member, Criterion, Profile}
 use Rattle.request.specs.Request.{Request}
 use Rattle.rows.specs.declared.Given.{Given}
-use Rattle.rows.specs.declared.Verdict.{Verdict}
+use Rattle.trials.specs.declared.Verdict.{Verdict}
 use Rattle.fitting.specs.Fitting.{by-form, cnf, dnf, part-fits, memberships, fits-at, trigger-fits, criterion-fits, trials-at, trials-from, criterion-trials}
 use Rattle.fitting.specs.Trigger.{of-rows, marked, fits-by}
 use Rattle.fitting.specs.Rowwise.{fits-nth, trials-nth, trigger-of, criterion-of, trials-of, tried-of, TriedRow, TriedRows, Considered}

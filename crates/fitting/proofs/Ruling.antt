@@ -13,7 +13,7 @@ use Rattle.profile.proofs.Standings.{row-is, members-are, fine-as}
 use Rattle.request.specs.Request.{Request}
 use Rattle.rows.specs.Tried.{Tried}
 use Rattle.rows.specs.declared.Given.{Given}
-use Rattle.rows.specs.declared.Verdict.{Verdict}
+use Rattle.trials.specs.declared.Verdict.{Verdict}
 use Rattle.fitting.specs.Fitting.{part-fits, fits-at, trials-at, criterion-fits, criterion-trials}
 use Rattle.fitting.specs.Rowwise.{fits-nth, trials-nth, criterion-of, tried-of, TriedRow, TriedRows, Considered}
 use Rattle.fitting.specs.Trigger.{members-at, fits-by}

@@ -16,7 +16,7 @@ use Rattle.request.specs.Request.{Request}
 use Rattle.request.specs.declared.Reading.{Reading}
 use Rattle.rows.specs.declared.Given.{Given}
 use Rattle.rows.specs.Tried.{Tried}
-use Rattle.rows.specs.declared.Verdict.{Verdict}
+use Rattle.trials.specs.declared.Verdict.{Verdict}
 use Rattle.fitting.specs.Rowwise.{Considered}
 use Rattle.route.specs.Advance.{Advances}
 use Rattle.listing.specs.Listing.{Lists}

@@ -28,9 +28,10 @@ use Rattle.request.specs.Places.{request-of, Placed}
 use Rattle.rows.specs.Rows.{registration-fits, test-fits, test-trials, row-fits, row-trials}
 use Rattle.rows.specs.declared.Given.{Given}
 use Rattle.rows.specs.Tried.{Spare, Tried}
-use Rattle.rows.specs.Trying.{one-trial, field-row, line-row, all-rows, patterns-row, test-row}
+use Rattle.trials.specs.Trying.{field-row, line-row, all-rows}
+use Rattle.rows.specs.Trying.{one-trial, patterns-row, test-row}
 use Rattle.request.specs.declared.Places.{Places}
-use Rattle.rows.specs.declared.Verdict.{Verdict}
+use Rattle.trials.specs.declared.Verdict.{Verdict}
 use Rattle.rows.proofs.Patterns.{read-some, fields-as, lines-as}
 use Rattle.request.proofs.Readings.{method-is, uri-is, short, lines-are}
 

@@ -1,9 +1,4 @@
 pub mod ByKind
-pub mod Fielding
-pub mod Items
-pub mod Lining
 pub mod Methods
 pub mod Patterns
-pub mod Sweep
 pub mod Trials
-pub mod Values

@@ -14,8 +14,8 @@ use Rattle.profile.specs.Decoded.{or-empty}
 use Rattle.contents.specs.Body.{Line}
 use Rattle.request.specs.Request.{Field}
 use Rattle.rows.specs.Rows.{field-fits, line-fits, field-trials, line-trials}
-use Rattle.rows.specs.Trying.{values-row, named-row, item-row, field-row, line-row, all-rows}
-use Rattle.rows.specs.declared.Verdict.{Verdict}
+use Rattle.trials.specs.Trying.{values-row, named-row, item-row, field-row, line-row, all-rows}
+use Rattle.trials.specs.declared.Verdict.{Verdict}
 
 -- bytes that are a pattern are read as one
 pub read-some : (t : List ℕ) → is-pattern t ≡ true → read-pattern t ≡ some (or-empty (read-pattern t))

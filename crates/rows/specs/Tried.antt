@@ -7,7 +7,7 @@ use Rattle.profile.specs.Image.{Row}
 use Rattle.request.specs.Request.{Request}
 use Rattle.rows.specs.Rows.{row-fits, row-trials}
 use Rattle.rows.specs.declared.Given.{Given}
-use Rattle.rows.specs.declared.Verdict.{Verdict}
+use Rattle.trials.specs.declared.Verdict.{Verdict}
 
 -- places for two patterns: 60 positions each
 pub record Spare (h-sets : List (List ℕ)) (h-before : List ℕ) (c-sets : List (List ℕ)) (c-before : List ℕ) : Type 0 where

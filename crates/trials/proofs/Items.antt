@@ -13,8 +13,8 @@ use Rattle.pattern.specs.Answers.{meets-text}
 use Rattle.contents.specs.Body.{Line}
 use Rattle.request.specs.Request.{Field}
 use Rattle.request.proofs.Few.{weight}
-use Rattle.rows.specs.Trying.{values-row, named-row, item-row, field-row, line-row}
-use Rattle.rows.specs.declared.Verdict.{Verdict}
+use Rattle.trials.specs.Trying.{values-row, named-row, item-row, field-row, line-row}
+use Rattle.trials.specs.declared.Verdict.{Verdict}
 
 -- ---- one item
 

@@ -5,7 +5,7 @@ use Prim.Native.Nat.{ℕ, _+_}
 use native.Mathlib.Nat.{zero-add, add-zero, add-assoc}
 use mathlib.Core.List.{List, [], _∷_}
 use Rattle.octets.specs.Lists.{some-of, total}
-use Rattle.rows.specs.declared.Verdict.{Verdict}
+use Rattle.trials.specs.declared.Verdict.{Verdict}
 
 pub record Swept {A : Type 0} (f : A → Bool) (g : A → ℕ) (rest : List A) (fits : Bool) (trials : ℕ) (whole : Verdict) : Type 0 where
   pub fit : (fits || some-of f rest) ≡ whole .fits

@@ -13,12 +13,12 @@ use Rattle.request.specs.Places.{head-of, field-parts, request-of, Placed}
 use Rattle.request.specs.Request.{Field}
 use Rattle.request.specs.declared.FieldParts.{FieldParts}
 use Rattle.request.proofs.Indexing.{FieldSays}
-use Rattle.rows.specs.Trying.{item-row, field-row, all-rows}
+use Rattle.trials.specs.Trying.{item-row, field-row, all-rows}
 use Rattle.request.specs.declared.Places.{Places}
-use Rattle.rows.specs.declared.Verdict.{Verdict}
-use Rattle.rows.proofs.Items.{fields-le}
+use Rattle.trials.specs.declared.Verdict.{Verdict}
+use Rattle.trials.proofs.Items.{fields-le}
 use Rattle.request.proofs.Readings.{request-of-small, fields-many, field-said, short, head-inside}
-use Rattle.rows.proofs.Sweep.{Swept, swept-first, swept-next, swept-end}
+use Rattle.trials.proofs.Sweep.{Swept, swept-first, swept-next, swept-end}
 
 -- the fields before i are tried
 pub record Fielding (h : List ℕ) (with : Bool) (c s : List ℕ) (i : ℕ) (fits : Bool) (trials : ℕ) : Type 0 where

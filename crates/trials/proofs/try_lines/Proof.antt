@@ -1,9 +1,9 @@
 use Prim.Native.Nat.{_+_, _-_}
 use lib.ListN.{length}
 use borrow.Author.Needs.{needs}
-use Rattle.rows.proofs.Lining.{Lining, lining-first, lining-end, lining-few, other-less, lining-other, type-inside, type-room, typed-order, typed-inside, typed-less, lining-next, lining-fit}
-use Rattle.rows.proofs.try_lines.Statement.{statement}
-use Rattle.rows.proofs.try_lines.Tie as tie
+use Rattle.trials.proofs.Lining.{Lining, lining-first, lining-end, lining-few, other-less, lining-other, type-inside, type-room, typed-order, typed-inside, typed-less, lining-next, lining-fit}
+use Rattle.trials.proofs.try_lines.Statement.{statement}
+use Rattle.trials.proofs.try_lines.Tie as tie
 
 abbrev Inv-loop : tie.InvT-loop
 Inv-loop body h h-shape h-sets h-before with c c-shape c-sets c-before fits₀ trials₀ p₀ fits trials p = Lining h with c body p fits trials

@@ -1,9 +1,9 @@
 use Prim.Native.Nat.{_+_, _-_}
 use lib.ListN.{length}
 use borrow.Author.Needs.{needs}
-use Rattle.rows.proofs.Values.{Trying, trying-first, value-order, value-inside, value-less, trying-next, trying-end, trying-few}
-use Rattle.rows.proofs.try_pieces.Statement.{statement}
-use Rattle.rows.proofs.try_pieces.Tie as tie
+use Rattle.trials.proofs.Values.{Trying, trying-first, value-order, value-inside, value-less, trying-next, trying-end, trying-few}
+use Rattle.trials.proofs.try_pieces.Statement.{statement}
+use Rattle.trials.proofs.try_pieces.Tie as tie
 
 abbrev Inv-loop : tie.InvT-loop
 Inv-loop v c shape sets before fits₀ trials₀ p₀ fits trials p = Trying c v p fits trials

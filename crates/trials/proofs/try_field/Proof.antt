@@ -1,7 +1,7 @@
 use borrow.Author.Needs.{needs}
-use Rattle.rows.proofs.Items.{item-no, item-bare, item-with}
-use Rattle.rows.proofs.try_field.Statement.{statement}
-use Rattle.rows.proofs.try_field.Tie as tie
+use Rattle.trials.proofs.Items.{item-no, item-bare, item-with}
+use Rattle.trials.proofs.try_field.Statement.{statement}
+use Rattle.trials.proofs.try_field.Tie as tie
 
 test-requires : tie.Need-test-requires
 test-requires c κs = search needs

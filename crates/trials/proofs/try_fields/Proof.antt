@@ -2,10 +2,10 @@ use mathlib.Core.Path.{_≡_}
 use Prim.Native.Nat.{_-_, _≤_}
 use lib.ListN.{length}
 use borrow.Author.Needs.{needs}
-use Rattle.rows.proofs.Fielding.{Fielding, fielding-first, fielding-few, fielding-end, name-order, name-inside, value-order, value-inside, value-short, value-room, fielding-next, fielding-fit}
+use Rattle.trials.proofs.Fielding.{Fielding, fielding-first, fielding-few, fielding-end, name-order, name-inside, value-order, value-inside, value-short, value-room, fielding-next, fielding-fit}
 use Rattle.request.proofs.Readings.{index-room}
-use Rattle.rows.proofs.try_fields.Statement.{statement}
-use Rattle.rows.proofs.try_fields.Tie as tie
+use Rattle.trials.proofs.try_fields.Statement.{statement}
+use Rattle.trials.proofs.try_fields.Tie as tie
 
 abbrev Inv-loop : tie.InvT-loop
 Inv-loop s starts colons places h h-shape h-sets h-before with c c-shape c-sets c-before room₀ long fields fits₀ trials₀ i₀ room fits trials i = Fielding h with c s i fits trials × (length room ≡ length room₀) × (length s ≤ length room)

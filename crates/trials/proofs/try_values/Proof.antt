@@ -1,8 +1,8 @@
 use borrow.Author.Needs.{needs}
 use Rattle.contents.proofs.Laws.{reduced-inside, reduced-short}
-use Rattle.rows.proofs.Values.{values-once, values-pieces}
-use Rattle.rows.proofs.try_values.Statement.{statement}
-use Rattle.rows.proofs.try_values.Tie as tie
+use Rattle.trials.proofs.Values.{values-once, values-pieces}
+use Rattle.trials.proofs.try_values.Statement.{statement}
+use Rattle.trials.proofs.try_values.Tie as tie
 
 normalise-requires : tie.Need-normalise-requires
 normalise-requires c κs = search needs

@@ -12,10 +12,10 @@ use Rattle.contents.specs.declared.BodyLine.{BodyLine}
 use Rattle.contents.specs.declared.BodyLine.the-variants.{Typed, Other, Done}
 use Rattle.contents.proofs.BodyLines.{TypedAt, OtherAt, LineSays, line-says, session-start}
 use Rattle.contents.proofs.Small.{session-lines-length}
-use Rattle.rows.specs.Trying.{item-row, line-row, all-rows}
-use Rattle.rows.specs.declared.Verdict.{Verdict}
-use Rattle.rows.proofs.Items.{lines-le}
-use Rattle.rows.proofs.Sweep.{Swept, swept-first, swept-next, swept-end}
+use Rattle.trials.specs.Trying.{item-row, line-row, all-rows}
+use Rattle.trials.specs.declared.Verdict.{Verdict}
+use Rattle.trials.proofs.Items.{lines-le}
+use Rattle.trials.proofs.Sweep.{Swept, swept-first, swept-next, swept-end}
 
 -- the lines before p are tried
 pub record Lining (h : List ℕ) (with : Bool) (c body : List ℕ) (p : ℕ) (fits : Bool) (trials : ℕ) : Type 0 where

@@ -1,7 +1,7 @@
 use borrow.Author.Needs.{needs}
-use Rattle.rows.proofs.Items.{item-no, item-bare, item-one}
-use Rattle.rows.proofs.try_line.Statement.{statement}
-use Rattle.rows.proofs.try_line.Tie as tie
+use Rattle.trials.proofs.Items.{item-no, item-bare, item-one}
+use Rattle.trials.proofs.try_line.Statement.{statement}
+use Rattle.trials.proofs.try_line.Tie as tie
 
 test-requires : tie.Need-test-requires
 test-requires c κs = search needs

@@ -14,9 +14,9 @@ use Rattle.contents.specs.Values.{reduced, never-cut, values-of}
 use Rattle.contents.specs.declared.Piece.{Piece}
 use Rattle.contents.proofs.Laws.{reduced-front}
 use Rattle.contents.proofs.Values.{ValueAt, value-says, values-past, values-cut, values-whole}
-use Rattle.rows.specs.Trying.{values-row}
-use Rattle.rows.specs.declared.Verdict.{Verdict}
-use Rattle.rows.proofs.Sweep.{Swept, swept-first, swept-next, swept-end}
+use Rattle.trials.specs.Trying.{values-row}
+use Rattle.trials.specs.declared.Verdict.{Verdict}
+use Rattle.trials.proofs.Sweep.{Swept, swept-first, swept-next, swept-end}
 
 -- ---- the loop
 

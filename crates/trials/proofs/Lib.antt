@@ -1,0 +1,5 @@
+pub mod Fielding
+pub mod Items
+pub mod Lining
+pub mod Sweep
+pub mod Values
