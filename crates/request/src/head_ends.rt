@@ -27,7 +27,7 @@ fn empty_line_at(s: &[u8], i: usize) -> bool
 }
 
 // The place of the first CR LF CR LF, or the length where there is none.
-pub(crate) fn head_end(s: &[u8]) -> usize
+pub fn head_end(s: &[u8]) -> usize
     ensures { λ r. ⌜ r ≡ length (head-of (now (s .entry))) ⌝ }
 {
     let mut k = cuts::place_of(s, 0, 13);

@@ -18,7 +18,7 @@ mod start_lines;
 use crate::field_lines::are_fields;
 use crate::field_lines::line_end;
 use crate::head_bytes::bytes_right;
-use crate::head_ends::head_end;
+pub use crate::head_ends::head_end;
 use crate::start_lines::StartLine;
 use crate::start_lines::start_line;
 
