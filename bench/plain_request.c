@@ -1,5 +1,6 @@
-/* What request_parts counts, by the same passes over the bytes, as one writes it in C: the other contender of request.c. Its rooms
- * are not filled with zeros first. */
+/* What request_parts counts, by the same passes over the bytes (but the end of the head is found while its bytes are judged), as one
+ * writes it in C: the other contender of request.c. Its rooms are not filled with zeros first. Then the searches for the end of the
+ * head alone. */
 #include <stddef.h>
 #include <stdint.h>
 
@@ -37,6 +38,28 @@ static size_t place_of(struct slice s, size_t from, uint8_t b) {
 
 static int empty_line_at(struct slice s, size_t i) {
     return s.at[i] == '\r' && byte_at(s, i + 1) == '\n' && byte_at(s, i + 2) == '\r' && byte_at(s, i + 3) == '\n';
+}
+
+/* The searches for the end of the head alone: as ours was before change request 4, and as it is. */
+size_t plain_head_by_byte(const uint8_t *request, size_t length) {
+    struct slice s = {request, length};
+    for (size_t i = place_of(s, 0, '\r'); i < length; i = place_of(s, i + 1, '\r'))
+        if (empty_line_at(s, i)) return i;
+    return length;
+}
+
+static size_t every_second(struct slice s, size_t from) {
+    while (from < s.length && s.at[from] > '\r') from += 2;
+    return from;
+}
+
+size_t plain_head_by_second(const uint8_t *request, size_t length) {
+    struct slice s = {request, length};
+    for (size_t i = every_second(s, 1); i < length; i = every_second(s, i + 2)) {
+        size_t at = request[i] == '\n' ? i - 1 : i;
+        if (empty_line_at(s, at)) return at;
+    }
+    return length;
 }
 
 /* Where the head ends, if all its bytes may stand there; else the length. */

@@ -1,5 +1,9 @@
 /* Counting the parts of a request, against plain C of the same passes: a usual INVITE, and each shape that could cost more than
- * its bytes, at four sizes. `grows` is the time against that of the size before: 2 where the time is linear. */
+ * its bytes, at four sizes. `grows` is the time against that of the size before: 2 where the time is linear. Then INVITEs with long
+ * values, whose heads have 1, 4, 16 and 64 KB; and in them the search for the end of the head alone, against plain C that looks at
+ * every byte and against plain C that looks at every second one.
+ *
+ * request count SIDE TIMES   one row of the INVITEs with long values by one contender, for counting instructions from outside */
 #include <stddef.h>
 #include <stdint.h>
 #include <stdio.h>
@@ -9,6 +13,8 @@
 
 typedef uint32_t parts(const uint8_t *request, size_t length, uint32_t *fields, uint32_t *values, uint32_t *lines);
 parts request_parts, plain_parts;
+typedef size_t search(const uint8_t *request, size_t length);
+search request_head, plain_head_by_byte, plain_head_by_second;
 
 enum { MOST = 65535 };
 static uint8_t request[MOST];
@@ -53,15 +59,32 @@ static void blanks(size_t size) { fill(size, "A b SIP/2.0\r\nX", " ", ":\r\n\r\n
 static void value(size_t size) { fill(size, "A b SIP/2.0\r\nX: ", "a", "\r\n\r\n"); }
 static void lines(size_t size) { fill(size, "A b SIP/2.0\r\n\r\n", "a=\n", ""); }
 
+/* An INVITE whose head has `size` bytes, in lines of some 500. */
+static void invite_of(size_t size) {
+    static const char start[] = "INVITE sip:+4420718205550@desk.example.net;user=phone SIP/2.0", name[] = "\r\nP-Charging-Vector: ";
+    length = 0;
+    text(start);
+    while (length < size) {
+        size_t from = length, line = size - from < 1000 ? size - from : 500;
+        text(name);
+        while (length < from + line) request[length] = (uint8_t)"icid-value=1234bc9876e;icid-generated-at=192.0.2.41;"[length % 52], length++;
+    }
+    text("\r\n\r\n");
+}
+
 /* ---- times */
 
 /* Of the processor's time, so that others on the machine count less. */
+static double now(void) {
+    struct timespec t;
+    clock_gettime(CLOCK_PROCESS_CPUTIME_ID, &t);
+    return (double)t.tv_sec * 1e9 + (double)t.tv_nsec;
+}
+
 static double once(parts *count, uint32_t times, uint32_t *n) {
-    struct timespec a, b;
-    clock_gettime(CLOCK_PROCESS_CPUTIME_ID, &a);
+    double from = now();
     for (uint32_t i = 0; i < times; i++) n[0] = count(request, length, &n[1], &n[2], &n[3]);
-    clock_gettime(CLOCK_PROCESS_CPUTIME_ID, &b);
-    return ((double)(b.tv_sec - a.tv_sec) * 1e9 + (double)(b.tv_nsec - a.tv_nsec)) / times;
+    return (now() - from) / times;
 }
 
 /* The largest of all rows. */
@@ -93,7 +116,50 @@ static void shape(const char *name, void (*make)(size_t)) {
     }
 }
 
-int main(void) {
+/* ---- the search alone */
+
+static const size_t sizes[] = {1024, 4096, 16384, MOST - 4};
+static search *const finds[] = {request_head, plain_head_by_byte, plain_head_by_second};
+static volatile size_t found;
+
+static double once_searched(search *find, uint32_t times) {
+    double from = now();
+    for (uint32_t i = 0; i < times; i++) found = find(request, length);
+    return (now() - from) / times;
+}
+
+static void searching(void) {
+    printf("\n%-8s %6s %10s %12s %12s %8s %8s\n", "search", "head", "ns", "C by byte", "C by second", "to it", "to it");
+    for (int k = 0; k < 4; k++) {
+        double best[3] = {1e18, 1e18, 1e18};
+        invite_of(sizes[k]);
+        for (int i = 0; i < 27; i++) {
+            double t = once_searched(finds[i % 3], 1 + 4000000 / (uint32_t)length);
+            if (found != sizes[k]) fprintf(stderr, "search: the end of the head was not found\n"), exit(1);
+            if (t < best[i % 3]) best[i % 3] = t;
+        }
+        printf("%-8s %6zu %10.0f %12.0f %12.0f %8.2f %8.2f\n", "long", sizes[k], best[0], best[1], best[2], best[0] / best[1], best[0] / best[2]);
+    }
+}
+
+/* Three searches of each size, then two readings. Prints the side's name; nothing, if there is no such side. */
+static void count_side(uint32_t side, uint32_t times) {
+    static const char *const names[] = {
+        "finding the end of the head", "  plain C, every byte", "  plain C, every second byte", "reading the request", "  plain C"};
+    uint32_t n[3], which = side % 5;
+    if (side >= 20) return;
+    invite_of(sizes[side / 5]);
+    for (uint32_t i = 0; i < times; i++)
+        if (which < 3) found = finds[which](request, length);
+        else found = (which == 3 ? request_parts : plain_parts)(request, length, &n[0], &n[1], &n[2]);
+    printf("%s, %zu\n", names[which], sizes[side / 5]);
+}
+
+int main(int argc, char **argv) {
+    if (argc > 3 && strcmp(argv[1], "count") == 0) {
+        count_side((uint32_t)strtoul(argv[2], NULL, 10), (uint32_t)strtoul(argv[3], NULL, 10));
+        return 0;
+    }
     printf("%-8s %6s %7s %7s %7s %10s %10s %6s %6s\n", "shape", "bytes", "fields", "values", "lines", "ns", "plain ns", "ratio", "grows");
     length = 0;
     text(invite);
@@ -104,6 +170,8 @@ int main(void) {
     shape("blanks", blanks);
     shape("value", value);
     shape("lines", lines);
+    for (int k = 0; k < 4; k++) invite_of(sizes[k]), line("long", 0);
     printf("\nin every row at most %.2f of plain C's time, and %.2f times that of half the size\n", most_ratio, most_growth);
+    searching();
     return 0;
 }

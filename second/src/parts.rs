@@ -1,5 +1,5 @@
-//! The parts of requests, counted: makes requests, and holds another program's counts against its
-//! own. README.md has both file formats.
+//! The parts of requests, counted, and where their heads end: makes requests, and holds another
+//! program's numbers against its own. README.md has both file formats.
 
 use crate::files::{write_bytes, write_number, Parsed, Source};
 use crate::maker::random::Random;
@@ -11,24 +11,96 @@ use std::io::{self, Write};
 const REQUESTS_MARK: &[u8; 4] = b"IFCR";
 const COUNTS_MARK: &[u8; 4] = b"IFCP";
 
-/// Refusal, fields, values of all fields, body lines that are fields.
-pub type Counts = [u32; 4];
+/// Refusal, fields, values of all fields, body lines that are fields, length of the head.
+pub type Counts = [u32; 5];
 
-/// "Request unreadable" is refusal 7.
+/// "Request unreadable" is refusal 7. Without CR LF CR LF all bytes are the head.
 pub fn counts(text: &[u8]) -> Counts {
-    let Some(request) = request::read(text) else { return [7, 0, 0, 0] };
+    let head = request::end_of_head(text).unwrap_or(text.len()) as u32;
+    let Some(request) = request::read(text) else { return [7, 0, 0, 0, head] };
     let values: usize = request.fields.iter().map(|field| field.values.len()).sum();
-    [0, request.fields.len() as u32, values as u32, request.lines.len() as u32]
+    [0, request.fields.len() as u32, values as u32, request.lines.len() as u32, head]
 }
 
-/// Every request of the fixed cases once, then `count` random ones.
+/// Every request of the fixed cases once, every small mixture of CR, LF and another byte, random
+/// requests with the end of the head at every place, then `count` random ones.
 pub fn requests(seed: u64, count: usize) -> Vec<Vec<u8>> {
     let mut requests: Vec<Vec<u8>> = maker::fixed().into_iter().map(|case| case.request).collect();
     requests.sort();
     requests.dedup();
+    requests.extend(mixtures(7));
     let mut random = Random::new(seed);
+    for place in 0..PLACES {
+        requests.push(ending(&mut random, place));
+        requests.push(strewn(&mut random, place));
+    }
     requests.extend((0..count).map(|_| any(&mut random)));
     requests
+}
+
+/// How many places an end of the head is put at.
+pub const PLACES: usize = 1_500;
+
+/// All texts of at most so many bytes that are CR, LF or `a`.
+fn mixtures(most: usize) -> Vec<Vec<u8>> {
+    let mut all = vec![Vec::new()];
+    let mut shorter = 0;
+    for _ in 0..most {
+        let longer = all.len();
+        for place in shorter..longer {
+            all.extend([b'\r', b'\n', b'a'].map(|byte| [all[place].as_slice(), &[byte]].concat()));
+        }
+        shorter = longer;
+    }
+    all
+}
+
+/// A readable request whose head has so many bytes, if that is enough for a start line.
+fn ending(random: &mut Random, head: usize) -> Vec<u8> {
+    let spare = head.saturating_sub(b"A  SIP/2.0".len());
+    let uri = if spare < 8 { spare } else { random.between(1, spare.min(40) - 4) };
+    let mut out = [b"A ".as_slice(), &vec![b'b'; uri], b" SIP/2.0"].concat();
+    while out.len() < head {
+        let left = head - out.len();
+        let line = if left < 8 { left } else { random.between(4, left - 4) };
+        out.extend(b"\r\nX:");
+        value(random, line - 4, &mut out);
+    }
+    out.truncate(head);
+    out.extend(b"\r\n\r\n");
+    tail(random, &mut out);
+    out
+}
+
+/// So many bytes of a value, with folds.
+fn value(random: &mut Random, bytes: usize, out: &mut Vec<u8>) {
+    let end = out.len() + bytes;
+    while out.len() < end {
+        match end - out.len() > 2 && random.chance(1, 12) {
+            true => out.extend(b"\r\n "),
+            false => out.push(*random.pick(b"aaaaaab,\"<> \t:\xFF")),
+        }
+    }
+}
+
+/// CR LF CR LF at a place, before it CR and LF in any order, now and then many.
+fn strewn(random: &mut Random, place: usize) -> Vec<u8> {
+    let seldom = *random.pick(&[2, 5, 50]);
+    let byte = |random: &mut Random| match random.chance(1, seldom) {
+        true => *random.pick(b"\r\n\r\n\t\x00"),
+        false => b'a',
+    };
+    let mut out: Vec<u8> = (0..place).map(|_| byte(random)).collect();
+    out.extend(b"\r\n\r\n");
+    tail(random, &mut out);
+    out
+}
+
+/// What may follow: more of the same, or half of it.
+fn tail(random: &mut Random, out: &mut Vec<u8>) {
+    for _ in 0..random.below(6) {
+        out.extend(*random.pick(&[b"\r\n\r\n".as_slice(), b"\r\n", b"\r", b"\n", b"a=", b"b=c\r\n"]));
+    }
 }
 
 /// A third of them damaged.
@@ -117,7 +189,11 @@ fn read_counts(file: &[u8]) -> Parsed<Vec<Counts>> {
     let count = source.mark(COUNTS_MARK)?;
     let mut counts = Vec::new();
     for _ in 0..count {
-        counts.push([source.number()?, source.number()?, source.number()?, source.number()?]);
+        let mut one = Counts::default();
+        for number in &mut one {
+            *number = source.number()?;
+        }
+        counts.push(one);
     }
     source.ends()?;
     Ok(counts)

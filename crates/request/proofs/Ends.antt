@@ -18,7 +18,7 @@ use Rattle.request.specs.Steps.{line-break}
 
 -- ---- CR LF CR LF
 
-empty-line-is : (s : List ℕ) (i : ℕ)
+pub empty-line-is : (s : List ℕ) (i : ℕ)
     → begins empty-line (drop i s)
     ≡ eqb 13 (getD s i 0) && (eqb 10 (getD s (i + 1) 0) && (eqb 13 (getD s (i + 1 + 1) 0) && (eqb 10 (getD s (i + 1 + 1 + 1) 0) && true)))
 empty-line-is s i =
@@ -88,9 +88,6 @@ begins-at-cr mark (b ∷ s) e = rw (sym (and-true (eqb 13 b)) ∙ e)
 
 pub break-at-cr : (s : List ℕ) → begins (13 ∷ []) s ≡ false → line-break s ≡ false
 break-at-cr s e = rw (begins-at-cr (10 ∷ []) s e)
-
-pub empty-at-cr : (s : List ℕ) → begins (13 ∷ []) s ≡ false → begins empty-line s ≡ false
-empty-at-cr = begins-at-cr (10 ∷ 13 ∷ 10 ∷ [])
 
 -- ---- the head
 

@@ -10,4 +10,5 @@ pub mod Judging
 pub mod Lines
 pub mod Nth
 pub mod Readings
+pub mod Seconds
 pub mod StartParts

@@ -64,7 +64,7 @@ pub fn read(text: &[u8]) -> Option<Request> {
 }
 
 /// "The head runs to the first CR LF CR LF."
-fn end_of_head(text: &[u8]) -> Option<usize> {
+pub fn end_of_head(text: &[u8]) -> Option<usize> {
     let mut ends = text.windows(4);
     if twisted(Twist::HeadRunsToLastEnd) {
         return ends.rposition(|four| four == b"\r\n\r\n");
