@@ -254,7 +254,7 @@ static void body(uint32_t n) {
     criterion(1);
     build();
     begin_request();
-    put("\r\n");
+    put("Content-Type: application/sdp\r\n\r\n");
     for (uint32_t i = 0; i < n; i++) put("a=rtpmap:0 PCMU/8000\r\n");
 }
 
@@ -372,7 +372,7 @@ static void worst(void) {
     n = repeat(",a", "\r\n\r\n");
     timed("values", 1, n + 1);
     worst_profile(ROW_LINE);
-    worst_request("\r\n");
+    worst_request("c:application/sdp\r\n\r\n");
     n = repeat("a=a\n", "");
     timed("lines", n, n);
 }

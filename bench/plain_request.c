@@ -204,6 +204,41 @@ static uint32_t count_values(struct slice name, struct slice raw, uint8_t *room)
     return n;
 }
 
+/* ---- whether the body is a session description */
+
+static int is_content_type(struct slice name) { return SAME(name, "Content-Type") | SAME(name, "c"); }
+
+/* Whether a reduced value is one, and up to the first semicolon application/sdp. */
+static int is_description(struct slice v) {
+    size_t start, end;
+    if (next_value(v, 0, &start, &end) <= v.length) return 0;
+    struct slice kind = part(v, start, end);
+    kind = part(kind, 0, place_of(kind, 0, ';'));
+    return SAME(part(kind, 0, trimmed_end(kind)), "application/sdp");
+}
+
+/* The field's name and raw value. */
+static void field_at(struct slice s, const uint16_t *starts, const uint16_t *colons, size_t many, size_t head, size_t i,
+    struct slice *name, struct slice *raw) {
+    size_t a = starts[i], k = colons[i], e = i + 1 < many ? starts[i + 1] - 2u : head;
+    *name = part(s, a, a + trimmed_end(part(s, a, k)));
+    *raw = part(s, k + 1, e);
+}
+
+/* Exactly one Content-Type field, with one such value. */
+static int described(struct slice s, const uint16_t *starts, const uint16_t *colons, size_t many, size_t head, uint8_t *room) {
+    int seen = 0, describes = 0;
+    for (size_t i = 0; i < many; i++) {
+        struct slice name, raw;
+        field_at(s, starts, colons, many, head, i, &name, &raw);
+        if (!is_content_type(name)) continue;
+        if (seen) return 0;
+        seen = 1;
+        describes = is_description((struct slice){room, normalise(raw, room)});
+    }
+    return describes;
+}
+
 /* ---- lines of the body */
 
 static uint32_t count_lines(struct slice b) {
@@ -225,12 +260,14 @@ uint32_t plain_parts(const uint8_t *request, size_t length, uint32_t *fields, ui
     *fields = *values = *lines = 0;
     if (!reads(s, starts, colons, &many, &head)) return 7;
     uint32_t n = 0;
+    int sdp = described(s, starts, colons, many, head, room);
     for (size_t i = 0; i < many; i++) {
-        size_t a = starts[i], k = colons[i], e = i + 1 < many ? starts[i + 1] - 2u : head;
-        n += count_values(part(s, a, a + trimmed_end(part(s, a, k))), part(s, k + 1, e), room);
+        struct slice name, raw;
+        field_at(s, starts, colons, many, head, i, &name, &raw);
+        n += count_values(name, raw, room);
     }
     *fields = (uint32_t)many;
     *values = n;
-    *lines = count_lines(part(s, head + 4, length));
+    *lines = count_lines(part(s, sdp ? head + 4 : length, length));
     return 0;
 }

@@ -57,7 +57,7 @@ static void commas(size_t size) { fill(size, "A b SIP/2.0\r\nX:", ",", "\r\n\r\n
 static void fields(size_t size) { fill(size, "A b SIP/2.0\r\n", "a:\r\n", "\r\n"); }
 static void blanks(size_t size) { fill(size, "A b SIP/2.0\r\nX", " ", ":\r\n\r\n"); }
 static void value(size_t size) { fill(size, "A b SIP/2.0\r\nX: ", "a", "\r\n\r\n"); }
-static void lines(size_t size) { fill(size, "A b SIP/2.0\r\n\r\n", "a=\n", ""); }
+static void lines(size_t size) { fill(size, "A b SIP/2.0\r\nc:application/sdp\r\n\r\n", "a=\n", ""); }
 
 /* An INVITE whose head has `size` bytes, in lines of some 500. */
 static void invite_of(size_t size) {

@@ -1,4 +1,4 @@
-/* desk DIRECTORY: the sample desk. Takes the requests in DIRECTORY through the desk's profile (desk.h) and prints each step. */
+/* desk DIRECTORY: the sample desk. Takes the requests in DIRECTORY through the desk's profiles (desk.h) and prints each step. */
 #include <stddef.h>
 #include <stdint.h>
 #include <stdio.h>
@@ -17,11 +17,14 @@ static void stop(const char *why) {
 
 /* ---- the profile */
 
-static void desk_profile(int recorder_handling) {
+static void profile(size_t length) {
     uint32_t place;
-    image_len = desk_image(recorder_handling, image, sizeof image);
-    if (ifc_check(image, image_len, &place) != IFC_ACCEPTED) stop("the desk's profile has a fault");
+    image_len = length;
+    if (ifc_check(image, image_len, &place) != IFC_ACCEPTED) stop("a profile of the desk has a fault");
 }
+
+static void desk_profile(int recorder_handling) { profile(desk_image(recorder_handling, image, sizeof image)); }
+static void sound_profile(void) { profile(sound_image(image, sizeof image)); }
 
 /* ---- requests */
 
@@ -100,6 +103,16 @@ static void call(const char *title, const char *first, const char *next, uint32_
     printf("In plain words: %s.\n\n", in_plain_words(&session, &answer, asked, of_recorder));
 }
 
+/* One advance: whether the request has a session line m=audio. */
+static void sound(const char *title, const char *name) {
+    ifc_session session;
+    ifc_answer answer;
+    printf("%s\n", title);
+    if (ifc_session_open(&session, IFC_ORIGINATING)) stop("no session");
+    advance(&session, name, &answer);
+    printf("In plain words: it has %s session line m=audio.\n\n", answer.outcome == IFC_FORWARD ? "a" : "no");
+}
+
 static void registration(const char *title, uint32_t type) {
     const struct request *r = request("register.sip");
     uint8_t list[IFC_CRITERIA_MOST];
@@ -137,5 +150,8 @@ int main(int argc, char **argv) {
     desk_profile(HANDLING_CONTINUED);
     call("The call again; the recorder cannot be reached, its default handling is continued", "invite.sip", "invite.sip",
         IFC_UNREACHABLE);
+    sound_profile();
+    sound("The call, over a profile that asks for a session line m=audio alone", "invite.sip");
+    sound("Over the same profile, a message with a presence document in which such a line stands", "presence.sip");
     return 0;
 }

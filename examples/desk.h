@@ -1,9 +1,11 @@
 /* The sample desk's profile. It has three servers.
  *
- * The recorder takes, in every session case, an INVITE with a body line m=audio, a MESSAGE and a first REGISTER, each only if a From
+ * The recorder takes, in every session case, an INVITE with a session line m=audio, a MESSAGE and a first REGISTER, each only if a From
  * field holds a desk's address (DESK_ADDRESS); `f:` is From too, since change request 1. If its default handling is terminated, a
  * call does not go on without it. Past it go, beside other methods,
  * - an INVITE without m=audio in its body, also one that leaves the offer to the other side;
+ * - since change request 5, an INVITE whose body is not told to be a session description: with no Content-Type field, with two, or
+ *   with another type, a body of many parts too, whatever lines it has;
  * - a desk's address in another form: with an escape (%64esk14 for desk14), with a password, as a tel: number.
  *
  * Billing takes calls to other houses. Voicemail takes calls to a desk and learns when one comes and goes. */
@@ -51,6 +53,16 @@ static inline size_t desk_image(int recorder_handling, uint8_t *to, size_t room)
     image_criterion(&b, (struct image_criterion){.priority = 30, .part = PART_ABSENT, .form = FORM_DNF,
         .server = "sip:voicemail@desk.example", .handling = HANDLING_ABSENT});
 
+    return image_end(&b, to, room);
+}
+
+/* A profile of one row: whatever has a session line m=audio goes to the media server. Its image's length. */
+static inline size_t sound_image(uint8_t *to, size_t room) {
+    static struct image_builder b;
+    image_begin(&b);
+    image_row(&b, (struct image_row){.kind = ROW_LINE, .first = "m", .content = "^audio "});
+    image_criterion(&b, (struct image_criterion){.priority = 10, .part = PART_ABSENT, .form = FORM_DNF,
+        .server = "sip:media@desk.example", .handling = HANDLING_CONTINUED});
     return image_end(&b, to, room);
 }
 

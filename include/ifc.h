@@ -8,7 +8,10 @@
  *                 that takes an image judges the whole of it before using it, so it need not be checked before.
  * Request         one SIP request, cut from the wire by the host: it begins with its start line, with no line before it; the body is
  *                 all that follows the first empty line; lines of the head end with CR LF; at most 65,535 bytes. Header names of one
- *                 letter that RFC 3261 lists count as the long ones (`f:` is `From:`), since change request 1.
+ *                 letter that RFC 3261 lists count as the long ones (`f:` is `From:`), since change request 1. Content-Type decides
+ *                 whether the body has lines for SessionDescription rows, since change request 5: it has them only if there is exactly
+ *                 one such field (`c:` too), with one value, and that, up to the first semicolon and trimmed, is `application/sdp` in
+ *                 any case. Otherwise such a row finds none, costs no trial, and fits if it is negated. The body is never refused.
  * Session         five numbers that the caller keeps between calls: see ifc_session. Nothing needs closing.
  * Criterion       named by its number in the image, counted from 0, not by its priority.
  *

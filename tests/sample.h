@@ -43,16 +43,17 @@ static inline size_t sample_image(uint8_t *to, size_t room) {
     return image_end(&b, to, room);
 }
 
-/* One of 512 requests, by the bits of the variant; its length. */
+/* One of 1,024 requests, by the bits of the variant; its length. Of one in two the body is a session description. */
 static inline size_t sample_request(uint32_t variant, char *to, size_t room) {
     static const char *const methods[4] = {"INVITE", "MESSAGE", "REGISTER", "OPTIONS"};
-    return (size_t)snprintf(to, room, "%s sip:%s@sample.example SIP/2.0\r\n%s%s%s%s%s\r\n%s%s", methods[variant & 3],
+    return (size_t)snprintf(to, room, "%s sip:%s@sample.example SIP/2.0\r\n%s%s%s%s%s%s\r\n%s%s", methods[variant & 3],
         variant & 4 ? "a" : "b", variant & 8 ? "From: \"Desk\" <sip:desk14@sample.example>;tag=1\r\n" : "From: <sip:joe@b>\r\n",
         variant & 16 ? "X-Test-Call : 1\r\n" : "", variant & 32 ? "Allow: INVITE, \"ACK\",\r\n ACK, BYE\r\n" : "Allow: BYE\r\n",
         variant & 64 ? "subject: aabbcc.*,g\r\n" : "", "Via: SIP/2.0/UDP 192.0.2.14\r\n",
+        variant & 512 ? "c: application/pidf+xml\r\n" : "Content-Type: Application/SDP ;\r\n a=\"b,c\"\r\n",
         variant & 128 ? "v=0\r\nm=audio 49170 RTP/AVP 8\r\na=x\r\n" : "", variant & 256 ? "a=curr:qos local none" : "no line");
 }
 
-enum { SAMPLE_REQUESTS = 512, SAMPLE_ROOM = 1024 };
+enum { SAMPLE_REQUESTS = 1024, SAMPLE_ROOM = 1024 };
 
 #endif

@@ -78,8 +78,15 @@ static void short_request(void) {
 
 static void long_body(void) {
     begin();
-    put("\r\na=");
+    put("c:application/sdp\r\n\r\na=");
     pad('b', sizeof request);
+}
+
+static void long_type(void) {
+    begin();
+    put("c:application/sdp;");
+    pad('b', sizeof request - 7);
+    put("\r\n\r\na=b");
 }
 
 /* 400 strings, 64 criteria, 1,955 rows. The first two rows have patterns of 60 elements; the name patterns match. */
@@ -170,7 +177,8 @@ int main(void) {
         const char *name;
         void (*make)(void);
     } worst[] = {{"4,096 bytes", short_request}, {"16,378 fields", many_fields}, {"a name of 65,000 bytes", long_name},
-        {"a value of 65,000 bytes", long_value}, {"65,000 values", many_values}, {"a line of 65,000 bytes", long_body}};
+        {"a value of 65,000 bytes", long_value}, {"65,000 values", many_values}, {"a line of 65,000 bytes", long_body},
+        {"a long Content-Type", long_type}};
     uint8_t *all = mmap(NULL, PAGE + DOCUMENTED + LIBRARY, PROT_READ | PROT_WRITE, MAP_PRIVATE | MAP_ANONYMOUS, -1, 0);
     if (all == MAP_FAILED || mprotect(all, PAGE, PROT_NONE)) stop("no memory");
     stack = all + PAGE;

@@ -3,7 +3,7 @@
 
 use crate::files::{write_bytes, write_number, Parsed, Source};
 use crate::maker::random::Random;
-use crate::maker::{self, lean};
+use crate::maker::{self, lean, types};
 use crate::request;
 use std::fs;
 use std::io::{self, Write};
@@ -11,7 +11,7 @@ use std::io::{self, Write};
 const REQUESTS_MARK: &[u8; 4] = b"IFCR";
 const COUNTS_MARK: &[u8; 4] = b"IFCP";
 
-/// Refusal, fields, values of all fields, body lines that are fields, length of the head.
+/// Refusal, fields, values of all fields, session lines, length of the head.
 pub type Counts = [u32; 5];
 
 /// "Request unreadable" is refusal 7. Without CR LF CR LF all bytes are the head.
@@ -19,7 +19,7 @@ pub fn counts(text: &[u8]) -> Counts {
     let head = request::end_of_head(text).unwrap_or(text.len()) as u32;
     let Some(request) = request::read(text) else { return [7, 0, 0, 0, head] };
     let values: usize = request.fields.iter().map(|field| field.values.len()).sum();
-    [0, request.fields.len() as u32, values as u32, request.lines.len() as u32, head]
+    [0, request.fields.len() as u32, values as u32, request.session_lines().len() as u32, head]
 }
 
 /// Every request of the fixed cases once, every small mixture of CR, LF and another byte, random
@@ -116,16 +116,21 @@ fn any(random: &mut Random) -> Vec<u8> {
     request
 }
 
-/// Values of the bytes that open, close and cut, in any order, and a body of those that end lines. Now
-/// and then long ones, some past the limit.
+/// Values of the bytes that open, close and cut, in any order, and a body of those that end lines, which is
+/// mostly a session description. Now and then long ones, some past the limit.
 fn mixed(random: &mut Random) -> Vec<u8> {
     let most = if random.chance(1, 200) { 400 } else { 12 };
     let mut out = b"A b SIP/2.0\r\n".to_vec();
+    let described = random.chance(2, 3);
+    if described {
+        out.extend(types::right(random));
+    }
     for _ in 0..random.below(most) {
         if out.len() > 65_000 {
             break;
         }
-        out.extend(random.pick(&["X", "Subject", "dATE", "Dates", "m", "s", "S", "ss"]).bytes());
+        let names = ["X", "Subject", "dATE", "Dates", "m", "s", "S", "ss", "c", "Content-Type"];
+        out.extend(random.pick(&names[..if described { 8 } else { 10 }]).bytes());
         out.extend(random.pick(&[":", " \t:", ": "]).bytes());
         for _ in 0..random.below(most) {
             out.extend(*random.pick(&[

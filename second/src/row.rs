@@ -3,7 +3,7 @@
 use crate::matching::{matches, Letters};
 use crate::pattern::Pattern;
 use crate::profile::{Row, Test};
-use crate::request::{name, Field, Line, Request};
+use crate::request::{Field, Line, Request};
 use crate::twist::{twisted, Twist};
 
 /// What rows are held against.
@@ -25,6 +25,7 @@ pub fn judge(row: &Row, subject: &Subject) -> Verdict {
     let fits = match row.negated && !twisted(Twist::NegationIgnored) {
         true if twisted(Twist::NegatedPerValue) => other_value(row, subject, verdict),
         true if twisted(Twist::SetAfterNegation) => !verdict.fits && in_set(row, subject),
+        true if twisted(Twist::NegatedRowNeedsDescription) => !verdict.fits && described(row, subject),
         true => !verdict.fits,
         false => verdict.fits,
     };
@@ -60,9 +61,14 @@ fn plain(row: &Row, subject: &Subject) -> Verdict {
         Test::SessionCase(case) => once(*case == subject.session_case),
         Test::SipHeader { name, content } => header(name, content.as_ref(), &subject.request.fields),
         Test::SessionDescription { line, content } => {
-            description(line, content.as_ref(), &subject.request.lines)
+            let verdict = description(line, content.as_ref(), subject.request.session_lines());
+            other_body(verdict, line, content.as_ref(), subject.request)
         }
     }
+}
+
+fn described(row: &Row, subject: &Subject) -> bool {
+    subject.request.described || !matches!(row.test, Test::SessionDescription { .. })
 }
 
 /// "For REGISTER with a nonempty set the registration type must also be in it. On any other
@@ -84,8 +90,7 @@ fn in_set(row: &Row, subject: &Subject) -> bool {
 
 fn name_matches(pattern: &Pattern, field: &Field) -> bool {
     let letters = if twisted(Twist::NamesAsWritten) { Letters::AsWritten } else { Letters::EitherForm };
-    // With this twist the field holds its name as written.
-    let too = twisted(Twist::WrittenNameTriedToo) && matches(pattern, &name::long(&field.name), letters);
+    let too = twisted(Twist::WrittenNameTriedToo) && matches(pattern, &field.written, letters);
     matches(pattern, &field.name, letters) || too
 }
 
@@ -157,4 +162,15 @@ fn description(line: &Pattern, content: Option<&Pattern>, lines: &[Line]) -> Ver
         }
     }
     verdict
+}
+
+/// "Trials count only such lines." Other ways to count where the body is no session description.
+fn other_body(verdict: Verdict, line: &Pattern, content: Option<&Pattern>, request: &Request) -> Verdict {
+    let trials = match () {
+        _ if request.described => verdict.trials,
+        _ if twisted(Twist::OtherBodyTried) => description(line, content, &request.body_lines).trials,
+        _ if twisted(Twist::OtherBodyOneTrial) => 1,
+        _ => verdict.trials,
+    };
+    Verdict { trials, ..verdict }
 }

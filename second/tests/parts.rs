@@ -4,10 +4,15 @@ use second::parts::{counts, requests, PLACES};
 
 #[test]
 fn parts_of_a_request() {
+    let fields = "Via: a, b\r\nSubject: a, b\r\nX:\r\n \"c, d\", <e,f>,\r\n";
     let request =
-        b"INVITE sip:b SIP/2.0\r\nVia: a, b\r\nSubject: a, b\r\nX:\r\n \"c, d\", <e,f>,\r\n\r\nv=0\r\nno\nm=";
-    // Via 2, Subject 1 (never cut), X 3 (the last is empty); v and m.
-    assert_eq!(counts(request), [0, 3, 6, 2, 67]);
+        |kind: &str| format!("INVITE sip:b SIP/2.0\r\n{fields}{kind}\r\nv=0\r\nno\nm=").into_bytes();
+    // Via 2, Subject 1 (never cut), X 3 (the last is empty), Content-Type 1; v and m.
+    assert_eq!(counts(&request("Content-Type: application/sdp\r\n")), [0, 4, 7, 2, 98]);
+    // The body is no session description.
+    assert_eq!(counts(&request("Content-Type: text/plain\r\n")), [0, 4, 7, 0, 93]);
+    assert_eq!(counts(&request("c: application/sdp,\r\n")), [0, 4, 8, 0, 88]);
+    assert_eq!(counts(&request("")), [0, 3, 6, 0, 67]);
     // s is Subject and never cut; f and From are two fields.
     assert_eq!(counts(b"INVITE sip:b SIP/2.0\r\ns: a, b\r\nf: a, b\r\nFrom: c\r\n\r\n"), [0, 3, 4, 0, 47]);
     assert_eq!(counts(b"INVITE sip:b SIP/2.0\r\n\r\n"), [0, 0, 0, 0, 20]);
@@ -54,4 +59,6 @@ fn made_requests_are_of_both_kinds() {
     let readable = random.iter().filter(|request| counts(request)[0] == 0).count();
     assert!((500..1_800).contains(&readable), "{readable} of 2,000");
     assert!(made.iter().any(|request| counts(request)[0] == 0 && request.len() == 65_535));
+    let with_lines = random.iter().filter(|request| counts(request)[3] > 0).count();
+    assert!(with_lines * 3 >= readable, "{with_lines} of {readable}");
 }

@@ -1,5 +1,5 @@
 //! The readings, point by point: each value here is written in the list of readings. Points 1.1 to 1.7 are those of change
-//! request 1.
+//! request 1, points 5.1 to 5.8 those of change request 5.
 
 mod common;
 use common::*;
@@ -413,8 +413,9 @@ fn cr1_7_blanks_before_the_colon() {
 }
 
 fn lines(body: &[u8]) -> Vec<(u8, Vec<u8>)> {
-    let request = second::request::read(&[BARE, body].concat()).expect("readable");
-    request.lines.into_iter().map(|line| (line.kind, line.value)).collect()
+    let request = [b"INVITE sip:b SIP/2.0\r\nContent-Type: application/sdp\r\n\r\n", body].concat();
+    let request = second::request::read(&request).expect("readable");
+    request.session_lines().iter().map(|line| (line.kind, line.value.clone())).collect()
 }
 
 #[test]
@@ -433,6 +434,122 @@ fn r14_to_r16_body_lines() {
         [(b'=', b"x".to_vec()), (b'\r', b"y".to_vec()), (0, Vec::new()), (255, b"z".to_vec()),]
     );
     assert_eq!(lines(b"=\n=\r\nab=c\n\n"), []);
+}
+
+/// Whether the body has session lines under these fields.
+fn described(fields: &[u8]) -> bool {
+    let request = second::request::read(&invite(&[fields, b"\r\nm=x\r\n"].concat())).expect("readable");
+    assert!([0, 1].contains(&request.session_lines().len()));
+    request.session_lines().len() == 1
+}
+
+fn described_as(value: &str) -> bool {
+    let both = ["Content-Type", "c"].map(|name| described(format!("{name}:{value}\r\n").as_bytes()));
+    assert_eq!(both[0], both[1], "{value}");
+    both[0]
+}
+
+#[test]
+fn cr5_1_which_field() {
+    for name in
+        ["Content-Type", "CONTENT-TYPE", "content-type", "cOnTeNt-TyPe", "c", "C", "c ", "Content-Type\t"]
+    {
+        assert!(described(format!("{name}: application/sdp\r\n").as_bytes()), "{name}");
+    }
+    for name in ["X-Content-Type", "Content-Types", "Content-Typ", "cc", "c-", "e", "m", "Accept"] {
+        assert!(!described(format!("{name}: application/sdp\r\n").as_bytes()), "{name}");
+        let both = format!("{name}: text/plain\r\nc: application/sdp\r\n");
+        assert!(described(both.as_bytes()), "{name} beside c");
+    }
+}
+
+#[test]
+fn cr5_2_one_value() {
+    for value in
+        ["application/sdp,", ",application/sdp", "application/sdp;a,b", "application/sdp,application/sdp"]
+    {
+        assert!(!described_as(value), "{value}");
+    }
+    assert!(described_as("application/sdp;a=\"x,y\""));
+    assert!(described_as("application/sdp;a=<x,y>"));
+    assert!(!described_as(""));
+    assert_eq!(values(b"Content-Type:\r\n\r\n"), [b""]);
+}
+
+#[test]
+fn cr5_3_two_fields() {
+    let right = b"Content-Type: application/sdp\r\n".as_slice();
+    for other in [right, b"c: application/sdp\r\n", b"c: text/plain\r\n", b"C:\r\n"] {
+        assert!(!described(&[right, other].concat()), "{}", other.escape_ascii());
+        assert!(!described(&[other, right].concat()), "{}", other.escape_ascii());
+    }
+    assert!(!described(&right.repeat(3)));
+}
+
+#[test]
+fn cr5_4_none() {
+    assert!(!described(b""));
+    assert!(!described(b"To: application/sdp\r\n"));
+}
+
+#[test]
+fn cr5_5_up_to_the_first_semicolon() {
+    for value in [
+        "application/sdp",
+        "Application/SDP",
+        "application/sdp;charset=utf-8",
+        "application/sdp ;x",
+        " \tapplication/sdp\t;x;y",
+        "application/sdp;",
+        "\r\n application/sdp\r\n ;x",
+    ] {
+        assert!(described_as(value), "{value}");
+    }
+    for value in [
+        "application / sdp",
+        "application/sdpx",
+        "application/sdp x",
+        "\"application/sdp\"",
+        "<application/sdp>",
+        "\"application/sdp;\"",
+        "application/sdp\";x\"",
+        ";application/sdp",
+        "application/sd",
+        "application/\r\n sdp",
+        "text/sdp",
+    ] {
+        assert!(!described_as(value), "{value}");
+    }
+}
+
+/// Whether a line row fits, and its trials.
+fn line_row(content: Option<&[u8]>, turned: bool, fields: &[u8]) -> (bool, u32) {
+    let mut draft = Draft::new();
+    let row = draft.text_row(4, b"m", content);
+    draft.single(1, if turned { negated(row) } else { row });
+    let request = invite(&[fields, b"\r\nv=0\r\nm=x\r\nno field\r\nm=y\r\n"].concat());
+    let answer = advance(&draft.bytes(), &request, READY);
+    (answer.outcome == 1, answer.trials)
+}
+
+#[test]
+fn cr5_6_no_lines_no_trials() {
+    let right = b"c: application/sdp\r\n".as_slice();
+    assert_eq!(line_row(None, false, right), (true, 3));
+    assert_eq!(line_row(Some(b"x"), false, right), (true, 3 + 2));
+    assert_eq!(line_row(Some(b"x"), true, right), (false, 3 + 2));
+    for other in [b"".as_slice(), b"c: text/plain\r\n", b"c: application/sdp\r\nc: application/sdp\r\n"] {
+        for content in [None, Some(b"x".as_slice())] {
+            assert_eq!(line_row(content, false, other), (false, 0), "{}", other.escape_ascii());
+            assert_eq!(line_row(content, true, other), (true, 0), "{}", other.escape_ascii());
+        }
+    }
+}
+
+#[test]
+fn cr5_7_never_a_refusal() {
+    assert!(readable(&invite(b"c: text/plain\r\n\r\n\x00\xFF\r=\n")));
+    assert!(readable(&invite(b"c: a\r\nc: b\r\n\r\nm=x")));
 }
 
 #[test]

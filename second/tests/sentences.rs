@@ -32,8 +32,11 @@ fn forms_of_letters() {
     assert!(row_fits(&one_row(2, b"^from$", None), &invite(b"FROM: a\r\n\r\n")));
     assert!(row_fits(&one_row(2, b"^FROM$", None), &invite(b"from: a\r\n\r\n")));
     assert!(!row_fits(&one_row(2, b"from", Some(b"joe")), &invite(b"From: JOE\r\n\r\n")));
-    assert!(!row_fits(&one_row(4, b"m", None), &invite(b"\r\nM=a\r\n")));
-    assert!(!row_fits(&one_row(4, b"m", Some(b"A")), &invite(b"\r\nm=a\r\n")));
+    let body = |lines: &[u8]| invite(&[b"c: application/sdp\r\n\r\n", lines].concat());
+    assert!(!row_fits(&one_row(4, b"m", None), &body(b"M=a\r\n")));
+    assert!(row_fits(&one_row(4, b"M", None), &body(b"M=a\r\n")));
+    assert!(!row_fits(&one_row(4, b"m", Some(b"A")), &body(b"m=a\r\n")));
+    assert!(row_fits(&one_row(4, b"m", Some(b"a")), &body(b"m=a\r\n")));
     assert!(!row_fits(&one_row(0, b"sip:B", None), BARE));
     assert!(row_fits(&one_row(0, b"sip:b", None), BARE));
 }
@@ -63,10 +66,11 @@ fn every_set() {
 /// refusal."
 #[test]
 fn head_and_body() {
-    let request = second::request::read(&invite(b"X: a\r\n\r\n\r\n\r\nb=c\x00\x7F\r")).expect("readable");
+    let text = invite(b"c: application/sdp\r\n\r\n\r\n\r\nb=c\x00\x7F\r");
+    let request = second::request::read(&text).expect("readable");
     assert_eq!(request.fields.len(), 1);
-    assert_eq!(request.lines.len(), 1);
-    assert_eq!((request.lines[0].kind, &request.lines[0].value[..]), (b'b', b"c\x00\x7F\r".as_slice()));
+    let [line] = request.session_lines() else { panic!("one line") };
+    assert_eq!((line.kind, &line.value[..]), (b'b', b"c\x00\x7F\r".as_slice()));
     for cut in [b"".as_slice(), b"X: a\r\n", b"X: a\r\n\r", b"X: a\n\n", b"X: a\r\n\n", b"X: a\nY: b\r\n\r\n"]
     {
         assert!(!readable(&invite(cut)), "{}", cut.escape_ascii());

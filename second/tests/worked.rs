@@ -147,7 +147,9 @@ fn the_rest_is_assessed_against_the_new_request() {
 /// field whose name matches; kind 4 likewise over lines that are fields, one value each."
 #[test]
 fn trials_by_kind() {
-    let request = invite(b"From: a, b, c\r\nTo: d\r\nFrom: e\r\n\r\nv=0\r\na=1\r\nno line\r\na=2\r\n");
+    let request = invite(
+        b"From: a, b, c\r\nTo: d\r\nFrom: e\r\nc: application/sdp\r\n\r\nv=0\r\na=1\r\nno line\r\na=2\r\n",
+    );
     let trials = |kind: u8, first: &[u8], second: Option<&[u8]>| {
         let mut draft = Draft::new();
         let row = draft.text_row(kind, first, second);
@@ -156,10 +158,10 @@ fn trials_by_kind() {
     };
     assert_eq!(trials(0, b"sip:b", None), 1);
     assert_eq!(trials(1, b"INVITE", None), 1);
-    assert_eq!(trials(2, b"From", None), 3);
-    assert_eq!(trials(2, b"From", Some(b"a")), 3 + 4);
-    assert_eq!(trials(2, b"^To$", Some(b"a")), 3 + 1);
-    assert_eq!(trials(2, b"None", Some(b"a")), 3);
+    assert_eq!(trials(2, b"From", None), 4);
+    assert_eq!(trials(2, b"From", Some(b"a")), 4 + 4);
+    assert_eq!(trials(2, b"^To$", Some(b"a")), 4 + 1);
+    assert_eq!(trials(2, b"None", Some(b"a")), 4);
     assert_eq!(trials(4, b"a", None), 3);
     assert_eq!(trials(4, b"a", Some(b"1")), 3 + 2);
 }

@@ -1,4 +1,5 @@
 pub mod BodyLines
+pub mod Describing
 pub mod Laws
 pub mod Norm
 pub mod Shortening

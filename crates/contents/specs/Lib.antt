@@ -1,4 +1,5 @@
 pub mod Body
+pub mod Description
 pub mod Names
 pub mod Places
 pub mod Steps

@@ -1,10 +1,12 @@
 // What stands in a request's fields and body: the values of a field, reduced and cut at commas, and the lines of a body. The definitions
 // stand in specs/.
 mod body_lines;
+mod description;
 mod names;
 mod pieces;
 
 pub use crate::body_lines::next_line;
+pub use crate::description::is_description;
 pub use crate::names::as_matched;
 pub use crate::names::long_names;
 pub use crate::names::never_cut;

@@ -10,7 +10,7 @@ use native.Mathlib.Numerals.{add-one, add-one-le}
 use native.Mathlib.Omega.{arith}
 use lib.ListN.{length, getD, take, drop, drop-of-length-le, length-drop}
 use lib.Dec.{eqb}
-use lib.Seq.{drop-cons, drop-drop, length-take-le}
+use lib.Seq.{drop-cons, drop-drop, length-take-le, take-all}
 use borrow.Author.Tests.{eq-eqb, ne-eqb}
 use Rattle.octets.specs.Lists.{pick}
 use Rattle.octets.specs.Option.{_>>=_}
@@ -167,12 +167,13 @@ module _ (mark : List ℕ) where
   cut-missing [] l = refl
   cut-missing (b ∷ s) l = missing-by b s (cut-missing s) (begins mark (b ∷ s)) refl l
 
-  -- how much stands before it
-  pub before-length : (s : List ℕ) → length (before-cut s (first-cut mark s)) ≡ first (begins mark) s
-  before-length s =
-      let k = first (begins mark) s in
-      let k-le : k ≤ length s = first-le (begins mark) s in
-      elim (decLe (length s) k) [
-        | yes h ↦ ap (λ (o : Option Cut). length (before-cut s o)) (cut-missing s h) ∙ omega arith
-        | no h ↦ ap (λ (o : Option Cut). length (before-cut s o)) (cut-found s (omega (arith, h))) ∙ length-take-le k s k-le
+  -- what stands before it
+  pub before-is : (s : List ℕ) → before-cut s (first-cut mark s) ≡ take (first (begins mark) s) s
+  before-is s =
+      elim (decLe (length s) (first (begins mark) s)) [
+        | yes h ↦ ap (before-cut s) (cut-missing s h) ∙ sym (take-all (first (begins mark) s) s h)
+        | no h ↦ ap (before-cut s) (cut-found s (omega (arith, h)))
       ]
+
+  pub before-length : (s : List ℕ) → length (before-cut s (first-cut mark s)) ≡ first (begins mark) s
+  before-length s = ap length (before-is s) ∙ length-take-le (first (begins mark) s) s (first-le (begins mark) s)

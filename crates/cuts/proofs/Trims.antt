@@ -10,9 +10,10 @@ use lib.Seq.{length-take-le, take-length, drop-cons}
 use borrow.Author.Tests.{not-true, not-false}
 use Rattle.octets.specs.Bytes.{white}
 use Rattle.octets.specs.Lists.{pick, empty}
-use Rattle.cuts.specs.Trimming.{trim-right, trim-left}
+use Rattle.cuts.specs.Trimming.{trim-right, trim-left, trim}
+use Rattle.cuts.specs.Parts.{part}
 use Rattle.cuts.specs.Searching.{first, text-here}
-use Rattle.cuts.proofs.Parts.{front-by, front-le}
+use Rattle.cuts.proofs.Parts.{front-by, front-le, drop-take}
 use Rattle.cuts.proofs.Search.{Came, came-next, came-found, first-yes, first-no}
 
 -- ---- the right end
@@ -89,6 +90,12 @@ pub trim-left-at : (s : List ℕ) → trim-left s ≡ drop (first text-here s) s
 unfolding trim-left first
 trim-left-at [] = refl
 trim-left-at (b ∷ s) = left-by b s (trim-left-at s) (white b) refl
+
+-- both ends, by place
+pub trim-part : (t : List ℕ) (e a : ℕ) → e ≡ length (trim-right t) → a ≡ first text-here (take e t) → trim t ≡ part t a e
+trim-part t e a ee ea =
+    let front : trim-right t ≡ take e t = trim-front t ∙ ap (λ (j : ℕ). take j t) (sym ee) in
+    ap trim-left front ∙ trim-left-at (take e t) ∙ ap (λ (j : ℕ). drop j (take e t)) (sym ea) ∙ drop-take a e t
 
 module _ (t : List ℕ) (p i : ℕ) (k : Came text-here t p i) (inside : i < length t) (r : Bool) (er : r ≡ white (getD t i 0)) where
   here-is : text-here (drop i t) ≡ not r

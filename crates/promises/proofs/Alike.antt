@@ -6,14 +6,15 @@ use Prim.Native.Nat.{ℕ, zero, suc, _+_}
 use mathlib.Core.List.{List, [], _∷_}
 use lib.ListN.{length, getElem?}
 use lib.Dec.{T, leb, eqb}
-use Rattle.octets.specs.Lists.{pick, some-of, total, same}
-use Rattle.octets.proofs.Tests.{T-of, test-cases, or-left, or-right}
+use Rattle.octets.specs.Lists.{pick, some-of, only, total, same}
+use Rattle.octets.proofs.Tests.{T-of, test-cases, or-left, or-right, or-cases, both, left, right}
 use Rattle.basic.specs.Pattern.{Pattern}
 use Rattle.pattern.specs.Matching.{name-matches}
 use Rattle.profile.specs.Image.{Test, request-uri, method, header, session-case, description, Row, Member, Criterion, Profile, Judged, accepted, refused}
 use Rattle.profile.specs.Judging.{judge}
 use Rattle.contents.specs.Body.{session-lines}
-use Rattle.request.specs.Request.{Request, Field, read-request, request-lines}
+use Rattle.contents.specs.Description.{content-type}
+use Rattle.request.specs.Request.{Request, Field, read-request, described-by, is-description, request-lines}
 use Rattle.session.specs.Session.{possible, ready}
 use Rattle.session.specs.declared.Session.{Session}
 use Rattle.rows.specs.Rows.{REGISTER, registration-fits, content-fits, field-fits, line-fits, test-fits, row-fits, content-trials, field-trials, line-trials, test-trials, row-trials}
@@ -22,7 +23,7 @@ use Rattle.fitting.specs.Fitting.{memberships, fits-at, by-form, trigger-fits, 
 use Rattle.route.specs.Advance.{refuse, walk, walk-with, in-session, advance-read, advance-judged, advance}
 use Rattle.listing.specs.Listing.{Listing, refuse-list, fill, fill-with, list-read, list-judged, listing}
 use Rattle.route.specs.declared.Advanced.{Advanced}
-use Rattle.promises.specs.Agreement.{header-meets, describes, any-header, any-description, AgreeFields, none-left, field-and, Agree, MayDiffer, agreeing, no-profile, no-requests}
+use Rattle.promises.specs.Agreement.{header-meets, describes, any-header, any-description, asked, AgreeFields, none-left, field-and, Agree, MayDiffer, agreeing, no-profile, no-requests}
 use Rattle.promises.proofs.StartLine.{start-same}
 
 -- ---- what must agree, of the requests as they are read
@@ -35,10 +36,21 @@ record Alike (rows : List Row) (q r : Request) : Type 0 where
 
 -- ---- a row
 
+-- what some row asks, one more row asks too
+asked-later : (x : Row) (rows : List Row) (name : List ℕ) → T (asked rows name) → T (asked (x ∷ rows) name)
+asked-later x rows name t =
+    let type = content-type name in
+    or-cases (any-header rows name) (any-description rows && type) t
+    (λ h. or-left (any-header (x ∷ rows) name) (any-description (x ∷ rows) && type) (or-right (header-meets (x .test) name) (any-header rows name) h))
+    (λ h. or-right (any-header (x ∷ rows) name) (any-description (x ∷ rows) && type)
+    (both (any-description (x ∷ rows)) type
+    (or-right (describes (x .test)) (any-description rows) (left (any-description rows) type h))
+    (right (any-description rows) type h)))
+
 fields-weaken : {x : Row} {rows : List Row} {fs gs : List Field} → AgreeFields (x ∷ rows) fs gs → AgreeFields rows fs gs
 fields-weaken none-left = none-left
 fields-weaken {x} {rows} (field-and {f = f} n v rest) =
-    field-and n (λ t. v (or-right (header-meets (x .test) (f .name)) (any-header rows (f .name)) t)) (fields-weaken rest)
+    field-and n (λ t. v (asked-later x rows (f .name) t)) (fields-weaken rest)
 
 weaken : {x : Row} {rows : List Row} {q r : Request} → Alike (x ∷ rows) q r → Alike rows q r
 weaken {x} {rows} a = record {
@@ -57,7 +69,8 @@ data SeenFields (h : Pattern) : List Field → List Field → Type 0 where
 seen : (h : Pattern) (rows : List Row) {fs gs : List Field} → ((name : List ℕ) → T (name-matches h name) → T (any-header rows name))
     → AgreeFields rows fs gs → SeenFields h fs gs
 seen h rows c none-left = seen-none
-seen h rows c (field-and {f = f} n v rest) = seen-and n (λ t. v (c (f .name) t)) (seen h rows c rest)
+seen h rows c (field-and {f = f} n v rest) =
+    seen-and n (λ t. v (or-left (any-header rows (f .name)) (any-description rows && content-type (f .name)) (c (f .name) t))) (seen h rows c rest)
 
 one-field-fits : (h : Pattern) (c : Option Pattern) (f g : Field) → f .name ≡ g .name → (T (name-matches h (f .name)) → f .values ≡ g .values)
     → field-fits h c f ≡ field-fits h c g
@@ -86,9 +99,39 @@ fields-trials : (h : Pattern) (c : Option Pattern) {fs gs : List Field} → Seen
 fields-trials h c seen-none = refl
 fields-trials h c (seen-and {f = f} {g = g} n v rest) = ap₂ (λ (a b : ℕ). 1 + a + b) (one-field-trials h c f g n v) (fields-trials h c rest)
 
+-- where a row asks for the body: the Content-Type fields are the same
+module _ (rows : List Row) (asks : T (any-description rows)) where
+  abbrev typed : Field → Bool
+  typed f = content-type (f .name)
+
+  typed-and : (f g : Field) (fs gs : List Field) → f .name ≡ g .name → (T (asked rows (f .name)) → f .values ≡ g .values) → fs ≡ gs
+      → pick (typed f) (f ∷ fs) fs ≡ pick (typed g) (g ∷ gs) gs
+  typed-and f g fs gs n v e =
+      test-cases (typed f)
+      (λ t.
+      let type : T (asked rows (f .name)) =
+      or-right (any-header rows (f .name)) (any-description rows && typed f) (both (any-description rows) (typed f) asks (T-of t))
+      in
+      ap (λ (b : Bool). pick b (f ∷ fs) fs) t
+      ∙ ap₂ (λ (x : Field) (l : List Field). x ∷ l) (λ i. record { name = n i; values = v type i }) e
+      ∙ sym (ap (λ (b : Bool). pick b (g ∷ gs) gs) (sym (ap content-type n) ∙ t)))
+      (λ t. ap (λ (b : Bool). pick b (f ∷ fs) fs) t ∙ e ∙ sym (ap (λ (b : Bool). pick b (g ∷ gs) gs) (sym (ap content-type n) ∙ t)))
+
+  typed-same : {fs gs : List Field} → AgreeFields rows fs gs → only typed fs ≡ only typed gs
+  typed-same none-left = refl
+  typed-same (field-and {f = f} {g = g} {fs = fs} {gs = gs} n v rest) = typed-and f g (only typed fs) (only typed gs) n v (typed-same rest)
+
+  lines-alike : (q r : Request) → Alike rows q r → request-lines q ≡ request-lines r
+  unfolding request-lines is-description
+  lines-alike q r a =
+      ap₂ (λ (fs : List Field) (b : List ℕ). pick (described-by fs) (session-lines b) []) (typed-same (a .same-fields)) (a .same-body asks)
+
+asks-body : (x : Row) (rows : List Row) (h : Pattern) (c : Option Pattern) → x .test ≡ description h c → T (any-description (x ∷ rows))
+asks-body x rows h c e = or-left (describes (x .test)) (any-description rows) (subst (λ (k : Test). T (describes k)) (sym e) tt)
+
 module _ (q r : Request) where
   test-alike : (g : Given) (x : Row) (rows : List Row) (t : Test) → x .test ≡ t → Alike (x ∷ rows) q r → test-fits q g t ≡ test-fits r g t
-  unfolding test-fits request-lines
+  unfolding test-fits
   test-alike g x rows (request-uri u) e a = ap (same u) (a .same-uri)
   test-alike g x rows (method m set) e a = ap (λ (k : List ℕ). same m k && registration-fits m set (g .registration)) (a .same-method)
   test-alike g x rows (header h c) e a =
@@ -97,11 +140,10 @@ module _ (q r : Request) where
       (a .same-fields))
   test-alike g x rows (session-case k) e a = refl
   test-alike g x rows (description h c) e a =
-      ap (λ (b : List ℕ). some-of (line-fits h c) (session-lines b))
-      (a .same-body (or-left (describes (x .test)) (any-description rows) (subst (λ (k : Test). T (describes k)) (sym e) tt)))
+      ap (some-of (line-fits h c)) (lines-alike (x ∷ rows) (asks-body x rows h c e) q r a)
 
   trials-alike : (x : Row) (rows : List Row) (t : Test) → x .test ≡ t → Alike (x ∷ rows) q r → test-trials q t ≡ test-trials r t
-  unfolding test-trials request-lines
+  unfolding test-trials
   trials-alike x rows (request-uri u) e a = refl
   trials-alike x rows (method m set) e a = refl
   trials-alike x rows (header h c) e a =
@@ -110,8 +152,7 @@ module _ (q r : Request) where
       (a .same-fields))
   trials-alike x rows (session-case k) e a = refl
   trials-alike x rows (description h c) e a =
-      ap (λ (b : List ℕ). total (line-trials h c) (session-lines b))
-      (a .same-body (or-left (describes (x .test)) (any-description rows) (subst (λ (k : Test). T (describes k)) (sym e) tt)))
+      ap (total (line-trials h c)) (lines-alike (x ∷ rows) (asks-body x rows h c e) q r a)
 
   -- the row of any number
   row-alike : (g : Given) (rows : List Row) (i : ℕ) → Alike rows q r → fits-at q g (getElem? rows i) ≡ fits-at r g (getElem? rows i)

@@ -1,5 +1,5 @@
 -- Demand 3's premise, in its own words: which parts of two requests agree, for the profile lent with them.
-use mathlib.Core.Bool.{Bool, true, false}
+use mathlib.Core.Bool.{Bool, true, false, _&&_, _||_}
 use mathlib.Core.Option.{Option, none, some}
 use mathlib.Core.Path.{_≡_}
 use Prim.Native.Nat.{ℕ}
@@ -9,6 +9,7 @@ use Rattle.octets.specs.Lists.{some-of}
 use Rattle.pattern.specs.Matching.{name-matches}
 use Rattle.profile.specs.Image.{Test, request-uri, method, header, session-case, description, Row, Profile, accepted, refused}
 use Rattle.profile.specs.Judging.{judge}
+use Rattle.contents.specs.Description.{content-type}
 use Rattle.cuts.specs.Cutting.{Cut, first-cut}
 use Rattle.request.specs.Request.{Request, Field, empty-line, head-lines, read-request}
 
@@ -38,6 +39,11 @@ any-header rows name = some-of (λ r. header-meets (r .test) name) rows
 abbrev pub any-description : List Row → Bool
 any-description rows = some-of (λ r. describes (r .test)) rows
 
+-- whose values agree: those of "fields whose name some Header pattern of the profile meets", and "the Content-Type value joins the agreed
+-- parts when the profile has any session description row" (change request 5)
+abbrev pub asked : List Row → List ℕ → Bool
+asked rows name = any-header rows name || any-description rows && content-type name
+
 -- ---- the requests' part
 
 -- the first line, or nothing
@@ -54,17 +60,17 @@ line-of (some c) = first (head-lines (c .before))
 unfoldable pub start-of : List ℕ → List ℕ
 start-of s = line-of (first-cut empty-line s)
 
--- "the header names", in the same order, each as it is matched ("Demand 3 compares names after this step", change request 1), and "the
--- values of fields whose name some Header pattern of the profile meets"
+-- "the header names", in the same order, each as it is matched ("Demand 3 compares names after this step", change request 1), and the
+-- values that are asked
 pub data AgreeFields (rows : List Row) : List Field → List Field → Type 0 where
   none-left : AgreeFields rows [] []
-  field-and : {f g : Field} {fs gs : List Field} → f .name ≡ g .name → (T (any-header rows (f .name)) → f .values ≡ g .values)
+  field-and : {f g : Field} {fs gs : List Field} → f .name ≡ g .name → (T (asked rows (f .name)) → f .values ≡ g .values)
       → AgreeFields rows fs gs → AgreeFields rows (f ∷ fs) (g ∷ gs)
 
 -- ---- the whole
 
 -- an accepted profile and two readable requests that "agree in the start line, the header names, the values of fields whose
--- name some Header pattern of the profile meets, and (only if some row asks) the body"
+-- name some Header pattern of the profile meets, and (only if some row asks) the body", and then the Content-Type value too
 pub record Agree (image a b : List ℕ) : Type 0 where
   pub profile : Profile
   pub accepts : judge image ≡ accepted profile

@@ -11,7 +11,7 @@ use Rattle.octets.specs.Option.{_>>=_}
 use Rattle.octets.proofs.Tests.{T-of}
 use Rattle.cuts.specs.Parts.{over}
 use Rattle.cuts.proofs.Parts.{length-part}
-use Rattle.request.specs.Places.{head-of, field-lines, fields-start, line-starts, line-colons, reading, starts-of, colons-of, Room, Read}
+use Rattle.request.specs.Places.{head-of, field-lines, fields-start, line-starts, line-colons, lines-start, reading, starts-of, colons-of, Read, Rooms, or-blank, request-of}
 use Rattle.request.specs.Request.{Field, Request, field, all-fields, read-request}
 use Rattle.request.specs.Steps.{is-some, lines-from, judged, Fillable, Filled}
 use Rattle.request.specs.declared.Judged.{Judged}
@@ -67,45 +67,54 @@ module _ (s starts colons : List ℕ) (j : Judged) (ej : j ≡ judged (head-of s
     pub head-inside : e ≤ length s
     head-inside = omega (arith, a .body-inside)
 
-    pub lines-room : e + 4 < 18446744073709551616
-    lines-room = omega (arith, a .body-inside, a .short)
-
     front-is : take (e - 0) (drop 0 s) ≡ take e s
     front-is = ap (λ (k : ℕ). take k s) (sub-zero e)
 
     long : length (take e s) ≡ e
     long = length-take-le e s head-inside
 
-    pub fillable : Room s starts × Room s colons → Fillable (take (e - 0) (drop 0 s)) f (length starts) (length colons)
-    fillable pre = subst (λ (h : List ℕ). Fillable h f (length starts) (length colons)) (sym front-is) (record {
+    pub fillable : (room : List ℕ) → Rooms s starts colons room → Fillable (take (e - 0) (drop 0 s)) f (length starts) (length colons)
+    fillable room pre = subst (λ (h : List ℕ). Fillable h f (length starts) (length colons)) (sym front-is) (record {
       inside = omega (arith, a .start-inside, long);
       short = omega (arith, a .short, a .body-inside, long);
       pairs = a .paired-on;
       fields = T-of (sym (all-fields-some (lines-from (take e s) f)) ∙ ap is-some (a .fields-are));
-      starts-room = omega (arith, pre .0 .enough (a .short), a .body-inside, long);
-      colons-room = omega (arith, pre .1 .enough (a .short), a .body-inside, long);
+      starts-room = omega (arith, pre .for-starts .enough (a .short), a .body-inside, long);
+      colons-room = omega (arith, pre .for-colons .enough (a .short), a .body-inside, long);
     })
 
+    pub room-enough : (room : List ℕ) → Rooms s starts colons room → length s ≤ length room
+    room-enough room pre = pre .for-room (a .short)
+
+    pub read-some : read-request s ≡ some (request-of s)
+    unfolding request-of
+    read-some = a .read ∙ ap some (sym (ap or-blank (a .read)))
+
     pub read-accepted : (starts′ colons′ : List ℕ) (n : ℕ) → Filled (take (e - 0) (drop 0 s)) f starts colons starts′ colons′ n
-        → Read s starts colons starts′ colons′ (Readable (record { method = m; uri = u; head = e; fields = n; lines = e + 4 }))
-    read-accepted starts′ colons′ n filled =
+        → (lines : ℕ) → lines ≡ lines-start (head-of s) (request-of s)
+        → Read s starts colons starts′ colons′ (Readable (record { method = m; uri = u; head = e; fields = n; lines = lines }))
+    read-accepted starts′ colons′ n filled lines lines-is =
         let k : Filled (take e s) f starts colons starts′ colons′ n = subst (λ (h : List ℕ). Filled h f starts colons starts′ colons′ n) front-is filled in
         let ls = lines-from (take e s) f in
         let m-is : length (a .request .method) ≡ m = ap length (a .method-is) ∙ length-take-le m s (omega (arith, a .before-uri, a .uri-inside, a .body-inside)) in
         let u-long : length (a .request .uri) ≡ u - (m + 1) = ap length (a .uri-is) ∙ length-part s (m + 1) u (omega (arith, a .before-uri)) (omega (arith, a .uri-inside, a .body-inside)) in
         let u-is : length (a .request .method) + 1 + length (a .request .uri) ≡ u = omega (arith, m-is, u-long, a .before-uri) in
         let h-is : length (head-of s) ≡ e = ap length (a .head-is) ∙ long in
+        let lines-so : lines-start (head-of s) (a .request) ≡ lines =
+        ap (lines-start (head-of s)) (Option·some-injective (a .request) (request-of s) (sym (a .read) ∙ read-some)) ∙ sym lines-is
+        in
         let n-is : length (a .request .fields) ≡ n = fields-count ls (a .request .fields) (a .fields-are) ∙ sym (k .count) in
-        let lines : field-lines (head-of s) ≡ ls = ap field-lines (a .head-is) ∙ a .lines-are in
+        let fields-are : field-lines (head-of s) ≡ ls = ap field-lines (a .head-is) ∙ a .lines-are in
         let start : fields-start (head-of s) ≡ f = ap fields-start (a .head-is) ∙ sym (a .start-is) in
         record {
-          answer = sym (ap (reading (head-of s)) (a .read) ∙ (λ i. Readable (record { method = m-is i; uri = u-is i; head = h-is i; fields = n-is i; lines = h-is i + 4 })));
+          answer =
+              sym (ap (reading (head-of s)) (a .read) ∙ (λ i. Readable (record { method = m-is i; uri = u-is i; head = h-is i; fields = n-is i; lines = lines-so i })));
           starts-are =
               k .starts-are ∙ ap (λ (i : ℕ). line-starts f ls ++ drop i starts) (k .count ∙ sym (starts-length f ls))
-              ∙ sym (ap (λ (o : Option Request). over (starts-of (head-of s) o) starts) (a .read) ∙ (λ i. over (line-starts (start i) (lines i)) starts));
+              ∙ sym (ap (λ (o : Option Request). over (starts-of (head-of s) o) starts) (a .read) ∙ (λ i. over (line-starts (start i) (fields-are i)) starts));
           colons-are =
               k .colons-are ∙ ap (λ (i : ℕ). line-colons f ls ++ drop i colons) (k .count ∙ sym (colons-length f ls))
-              ∙ sym (ap (λ (o : Option Request). over (colons-of (head-of s) o) colons) (a .read) ∙ (λ i. over (line-colons (start i) (lines i)) colons));
+              ∙ sym (ap (λ (o : Option Request). over (colons-of (head-of s) o) colons) (a .read) ∙ (λ i. over (line-colons (start i) (fields-are i)) colons));
         }
 
 -- ---- for callers: an unreadable request is none

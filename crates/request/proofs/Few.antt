@@ -1,4 +1,5 @@
 -- The fields of a request with their values are no more than the bytes of its head, and so few.
+use mathlib.Core.Bool.{Bool, true, false}
 use mathlib.Core.Option.{Option, none, some, Option·some-injective}
 use mathlib.Core.Path.{_≡_, refl, sym, ap, _∙_, subst}
 use mathlib.Core.List.{List, [], _∷_}
@@ -9,19 +10,20 @@ use native.Mathlib.Decide.{decLe}
 use lib.ListN.{length, take, drop, length-drop}
 use lib.Dec.{T}
 use lib.Seq.{length-take-le}
-use Rattle.octets.specs.Lists.{total}
+use Rattle.octets.specs.Lists.{pick, total}
 use Rattle.octets.proofs.Options.{Ok}
 use Rattle.cuts.specs.Parts.{part}
 use Rattle.cuts.specs.Searching.{first}
 use Rattle.cuts.specs.Trimming.{trim-right}
 use Rattle.cuts.proofs.Parts.{length-part}
 use Rattle.cuts.proofs.Trims.{trim-le}
+use Rattle.contents.specs.Body.{session-lines}
 use Rattle.contents.specs.Names.{name-as-matched}
 use Rattle.contents.specs.Values.{reduced}
 use Rattle.contents.proofs.Norm.{reduced-le}
-use Rattle.contents.proofs.Small.{values-length}
+use Rattle.contents.proofs.Small.{values-length, session-lines-length}
 use Rattle.request.specs.Places.{colon-in, head-of}
-use Rattle.request.specs.Request.{Request, Field, paired, field, all-fields, read-request}
+use Rattle.request.specs.Request.{Request, Field, paired, field, all-fields, read-request, is-description, request-lines}
 use Rattle.request.specs.Steps.{line-break, lines-from, judged}
 use Rattle.request.proofs.Accepted.{Accepts, accepts}
 use Rattle.request.proofs.Fields.{end-order, end-inside}
@@ -111,3 +113,12 @@ request-small s = go (read-request s) refl
           fields-le = omega (arith, request-few s _ _ _ _ k, k .body-inside, k .short);
           body-le = omega (arith, ap length (k .body-is), length-drop (length (head-of s) + 4) s, k .short);
         })
+
+-- body lines
+pub body-lines-few : (q : Request) → Small q → length (request-lines q) ≤ 65536
+unfolding request-lines
+body-lines-few q h = go (is-description q)
+  where
+    go : (b : Bool) → length (pick b (session-lines (q .body)) []) ≤ 65536
+    go true = omega (arith, session-lines-length (q .body), h .body-le)
+    go false = omega arith

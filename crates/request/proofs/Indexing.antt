@@ -23,15 +23,16 @@ use Rattle.cuts.proofs.Search.{first-le, first-holds, begins-long, before-lengt
 use Rattle.cuts.proofs.Trims.{trim-le, trim-front}
 use Rattle.contents.specs.Names.{name-as-matched}
 use Rattle.contents.specs.Values.{reduced, values-of}
-use Rattle.request.specs.Places.{head-of, field-lines, fields-start, line-starts, colon-in, line-colons, reading, starts-of, colons-of, places-of, Read, Placed, parts-of, field-parts}
+use Rattle.request.specs.Places.{head-of, field-lines, fields-start, line-starts, colon-in, line-colons, reading, starts-of, colons-of, lines-start, places-of, Read, Placed, Fielded, request-of, parts-of, field-parts}
 use Rattle.request.specs.Request.{Field, Request, paired, read-request}
-use Rattle.request.specs.Steps.{line-break, lines-from, judged}
+use Rattle.request.specs.Steps.{line-break, lines-from, judged, Filled}
 use Rattle.request.specs.declared.FieldParts.{FieldParts}
+use Rattle.request.specs.declared.Judged.{Judged}
 use Rattle.request.specs.declared.Judged.the-variants.{Accepted}
 use Rattle.request.specs.declared.Places.{Places}
 use Rattle.request.specs.declared.Reading.the-variants.{Readable}
 use Rattle.request.proofs.Accepted.{Accepts, accepts}
-use Rattle.request.proofs.Answers.{fields-count, starts-length, colons-length}
+use Rattle.request.proofs.Answers.{fields-count, starts-length, colons-length, read-some, read-accepted}
 use Rattle.request.proofs.Fields.{end-order, end-inside, line-long, starts-here, colons-here}
 use Rattle.request.proofs.Lines.{line-here, line-next, line-past}
 use Rattle.request.proofs.Nth.{Nth, nth, field-is, name-token, colon-in-line, token-long}
@@ -153,8 +154,11 @@ module _ (h : List ℕ) (o : Option Request) (w : Places) (x : Request) (q : Rea
   pub readable-count : length (x .fields) ≡ w .fields
   readable-count = sym (ap (λ (v : Places). v .fields) places-so)
 
-  pub readable-lines : w .lines ≡ w .head + 4
-  readable-lines = ap (λ (v : Places). v .lines) places-so ∙ sym (ap (λ (v : Places). v .head + 4) places-so)
+  pub readable-head : length h ≡ w .head
+  readable-head = sym (ap (λ (v : Places). v .head) places-so)
+
+  pub readable-lines : w .lines ≡ lines-start h x
+  readable-lines = ap (λ (v : Places). v .lines) places-so
 
 readable-of : (h : List ℕ) (o : Option Request) (w : Places) → Readable w ≡ reading h o → Accepted (w .head) (w .method) (w .uri) (fields-start h) ≡ judged h o
 readable-of h none w q = let z : _≡_ {A = ℕ} 0 1 = cc in absurd (omega arith)
@@ -163,12 +167,44 @@ readable-of h (some x) w q = ap (λ (v : Places). Accepted (v .head) (v .method)
 pub accepted-by : (s : List ℕ) (w : Places) → Readable w ≡ reading (head-of s) (read-request s) → Accepts s (w .head) (w .method) (w .uri) (fields-start (head-of s))
 accepted-by s w q = accepts s (w .head) (w .method) (w .uri) (fields-start (head-of s)) (readable-of (head-of s) (read-request s) w q)
 
-module _ (s starts colons : List ℕ) (w : Places) (x : Placed s starts colons w) (i : ℕ) (less : i < w .fields) where
-  a : Accepts s (w .head) (w .method) (w .uri) (fields-start (head-of s))
-  a = accepted-by s w (x .read)
+module _ (s starts colons : List ℕ) (head fields : ℕ) (x : Fielded s starts colons head fields) where
+  abbrev w : Places
+  w = places-of (head-of s) (request-of s)
+
+  w-read : Readable w ≡ reading (head-of s) (read-request s)
+  w-read = sym (ap (reading (head-of s)) (x .read))
+
+  accepted-at : Accepts s head (w .method) (w .uri) (fields-start (head-of s))
+  accepted-at = subst (λ (k : ℕ). Accepts s k (w .method) (w .uri) (fields-start (head-of s))) (sym (x .head-is)) (accepted-by s w w-read)
+
+  pub short : length s ≤ 65535
+  short = accepted-at .short
+
+  pub head-inside : head + 4 ≤ length s
+  head-inside = accepted-at .body-inside
+
+  pub body-is : request-of s .body ≡ drop (head + 4) s
+  body-is =
+      ap (λ (q : Request). q .body) (Option·some-injective (request-of s) (accepted-at .request) (sym (x .read) ∙ accepted-at .read))
+      ∙ accepted-at .body-is
+
+  pub body-length : head + 4 + length (request-of s .body) ≡ length s
+  body-length = omega (arith, ap length body-is, length-drop (head + 4) s, head-inside)
+
+  count : length (lines-from (take head s) (fields-start (head-of s))) ≡ fields
+  count =
+      sym (fields-count (lines-from (take head s) (fields-start (head-of s))) (accepted-at .request .fields) (accepted-at .fields-are))
+      ∙ readable-count (head-of s) (read-request s) w (accepted-at .request) w-read (accepted-at .read) ∙ sym (x .count)
+
+module _ (s starts colons : List ℕ) (head fields : ℕ) (x : Fielded s starts colons head fields) (i : ℕ) (less : i < fields) where
+  abbrev v : Places
+  v = places-of (head-of s) (request-of s)
+
+  a : Accepts s head (v .method) (v .uri) (fields-start (head-of s))
+  a = accepted-at s starts colons head fields x
 
   abbrev h : List ℕ
-  h = take (w .head) s
+  h = take head s
 
   abbrev f : ℕ
   f = fields-start (head-of s)
@@ -176,33 +212,33 @@ module _ (s starts colons : List ℕ) (w : Places) (x : Placed s starts colons w
   abbrev ls : List (List ℕ)
   ls = lines-from h f
 
-  pub head-inside : w .head ≤ length s
-  head-inside = omega (arith, a .body-inside)
+  inside : head ≤ length s
+  inside = omega (arith, a .body-inside)
 
-  long-h : length h ≡ w .head
-  long-h = length-take-le (w .head) s head-inside
+  long-h : length h ≡ head
+  long-h = length-take-le head s inside
 
-  count : length ls ≡ w .fields
-  count = sym (fields-count ls (a .request .fields) (a .fields-are)) ∙ readable-count (head-of s) (read-request s) w (a .request) (x .read) (a .read)
+  many : length ls ≡ fields
+  many = count s starts colons head fields x
 
   pub line : LineAt h f i
-  line = line-at h i f (a .paired-on) (omega (arith, count, less))
+  line = line-at h i f (a .paired-on) (omega (arith, many, less))
 
-  starts-is : take (w .fields) starts ≡ line-starts f ls
+  starts-is : take fields starts ≡ line-starts f ls
   starts-is =
       x .starts-are ∙ ap (starts-of (head-of s)) (a .read)
       ∙ ap (line-starts f) (ap field-lines (a .head-is) ∙ a .lines-are)
 
-  colons-is : take (w .fields) colons ≡ line-colons f ls
+  colons-is : take fields colons ≡ line-colons f ls
   colons-is =
       x .colons-are ∙ ap (colons-of (head-of s)) (a .read)
       ∙ ap (line-colons f) (ap field-lines (a .head-is) ∙ a .lines-are)
 
   pub start-there : getD starts i 0 ≡ line .at
-  start-there = sym (getD-take (w .fields) starts i 0 less) ∙ ap (λ (l : List ℕ). getD l i 0) starts-is ∙ at-front (line-starts f ls) i (line .at) 0 _ (line .starts)
+  start-there = sym (getD-take fields starts i 0 less) ∙ ap (λ (l : List ℕ). getD l i 0) starts-is ∙ at-front (line-starts f ls) i (line .at) 0 _ (line .starts)
 
   pub colon-there : getD colons i 0 ≡ line .at + colon-in (part h (line .at) (line .end))
-  colon-there = sym (getD-take (w .fields) colons i 0 less) ∙ ap (λ (l : List ℕ). getD l i 0) colons-is ∙ at-front (line-colons f ls) i _ 0 _ (line .colons)
+  colon-there = sym (getD-take fields colons i 0 less) ∙ ap (λ (l : List ℕ). getD l i 0) colons-is ∙ at-front (line-colons f ls) i _ 0 _ (line .colons)
 
   abbrev at : ℕ
   at = line .at
@@ -213,7 +249,7 @@ module _ (s starts colons : List ℕ) (w : Places) (x : Placed s starts colons w
   abbrev l : List ℕ
   l = part h at end
 
-  end-le : end ≤ w .head
+  end-le : end ≤ head
   end-le = omega (arith, end-inside h at end (line .inside) (line .end-is), long-h)
 
   at-le : at ≤ end
@@ -223,7 +259,7 @@ module _ (s starts colons : List ℕ) (w : Places) (x : Placed s starts colons w
   long-l = line-long h at end (line .inside) (line .end-is)
 
   line-is : l ≡ part s at end
-  line-is = part-front (w .head) at end s end-le
+  line-is = part-front head at end s end-le
 
   colon-le : colon-in l ≤ length l
   unfolding colon-in
@@ -232,11 +268,11 @@ module _ (s starts colons : List ℕ) (w : Places) (x : Placed s starts colons w
   abbrev later : List (List ℕ)
   later = lines-from h (end + 2)
 
-  later-count : i + 1 + length later ≡ w .fields
-  later-count = omega (arith, ap length (line .lines), length-drop i ls, count, less)
+  later-count : i + 1 + length later ≡ fields
+  later-count = omega (arith, ap length (line .lines), length-drop i ls, many, less)
 
   pub few : 2 * i ≤ 65535
-  few = omega (arith, line .on, line .inside, long-h, head-inside, a .short)
+  few = omega (arith, line .on, line .inside, long-h, inside, a .short)
 
   -- the next line starts two bytes after this one
   next-by : (ks : List (List ℕ)) → 0 < length ks → getD (line-starts (end + 2) ks) 0 0 ≡ end + 2
@@ -244,9 +280,9 @@ module _ (s starts colons : List ℕ) (w : Places) (x : Placed s starts colons w
   next-by [] k = absurd (not-suc-le-zero k)
   next-by (k ∷ ks) m = refl
 
-  pub next-there : i + 1 < w .fields → getD starts (i + 1) 0 ≡ end + 2
+  pub next-there : i + 1 < fields → getD starts (i + 1) 0 ≡ end + 2
   next-there more =
-      sym (getD-take (w .fields) starts (i + 1) 0 more) ∙ ap (λ (r : List ℕ). getD r (i + 1) 0) starts-is
+      sym (getD-take fields starts (i + 1) 0 more) ∙ ap (λ (r : List ℕ). getD r (i + 1) 0) starts-is
       ∙ ap (λ (k : ℕ). getD (line-starts f ls) k 0) (sym (add-zero (i + 1))) ∙ sym (getD-drop (i + 1) (line-starts f ls) 0 0)
       ∙ ap (λ (r : List ℕ). getD r 0 0) (drop-next (line-starts f ls) i at (line-starts (end + 2) later) (line .starts))
       ∙ next-by later (omega (arith, later-count))
@@ -255,10 +291,10 @@ module _ (s starts colons : List ℕ) (w : Places) (x : Placed s starts colons w
   no-later [] k = refl
   no-later (k ∷ ks) m = absurd (omega arith)
 
-  last-there : w .fields ≤ i + 1 → end ≡ w .head
+  last-there : fields ≤ i + 1 → end ≡ head
   last-there past = last-line h at end (line .inside) (line .paired-on) (line .end-is) (no-later later (omega (arith, later-count))) ∙ long-h
 
-  pub next-room : i + 1 < w .fields → 2 ≤ getD starts (i + 1) 0
+  pub next-room : i + 1 < fields → 2 ≤ getD starts (i + 1) 0
   next-room more = omega (arith, next-there more)
 
   -- the parts of field i are those of this line
@@ -277,20 +313,20 @@ module _ (s starts colons : List ℕ) (w : Places) (x : Placed s starts colons w
 
   -- what the code finds
   pub starts-place : i < length starts
-  starts-place = omega (arith, ap length starts-is, starts-length f ls, count, length-take (w .fields) starts, min-le-right (w .fields) (length starts), less)
+  starts-place = omega (arith, ap length starts-is, starts-length f ls, many, length-take fields starts, min-le-right fields (length starts), less)
 
   pub colons-place : i < length colons
-  colons-place = omega (arith, ap length colons-is, colons-length f ls, count, length-take (w .fields) colons, min-le-right (w .fields) (length colons), less)
+  colons-place = omega (arith, ap length colons-is, colons-length f ls, many, length-take fields colons, min-le-right fields (length colons), less)
 
-  pub starts-room : w .fields ≤ length starts
-  starts-room = omega (arith, ap length starts-is, starts-length f ls, count, length-take (w .fields) starts, min-le-right (w .fields) (length starts))
+  pub starts-room : fields ≤ length starts
+  starts-room = omega (arith, ap length starts-is, starts-length f ls, many, length-take fields starts, min-le-right fields (length starts))
 
   module _ (p k : ℕ) (p-is : p ≡ getD starts i 0) (k-is : k ≡ getD colons i 0) where
     pub name-order : p ≤ k
     name-order = omega (arith, p-is, k-is, start-there, colon-there)
 
     pub name-inside : k ≤ length s
-    name-inside = omega (arith, k-is, colon-there, colon-le, long-l, at-le, end-le, head-inside)
+    name-inside = omega (arith, k-is, colon-there, colon-le, long-l, at-le, end-le, inside)
 
     pub small : k ≤ 65535
     small = omega (arith, name-inside, a .short)
@@ -307,7 +343,7 @@ module _ (s starts colons : List ℕ) (w : Places) (x : Placed s starts colons w
       pub stop-inside : p + n ≤ k
       stop-inside = omega (arith, n-is, trim-le (part s p k), length-part s p k name-order name-inside, name-order)
 
-      pub parts-are : (e : ℕ) → e ≡ pick (ltb (i + 1) (w .fields)) (getD starts (i + 1) 0 - 2) (w .head)
+      pub parts-are : (e : ℕ) → e ≡ pick (ltb (i + 1) fields) (getD starts (i + 1) 0 - 2) head
           → _≡_ {A = FieldParts} (record { name = p; stop = p + n; value = k + 1; end = e }) (field-parts (head-of s) i)
       parts-are e e-is =
           let p-at : p ≡ at = p-is ∙ start-there in
@@ -317,13 +353,13 @@ module _ (s starts colons : List ℕ) (w : Places) (x : Placed s starts colons w
           (λ j. record { name = p-at j; stop = n-so j; value = k-so j; end = e-so j })
           ∙ sym parts-so
         where
-          end-found : (e : ℕ) → e ≡ pick (ltb (i + 1) (w .fields)) (getD starts (i + 1) 0 - 2) (w .head) → e ≡ end
+          end-found : (e : ℕ) → e ≡ pick (ltb (i + 1) fields) (getD starts (i + 1) 0 - 2) head → e ≡ end
           end-found e e-is =
-              elim (decLe (w .fields) (i + 1)) [
-                | yes g ↦ e-is ∙ sym (end-by-head starts (w .head) (w .fields) i g) ∙ sym (last-there g)
+              elim (decLe fields (i + 1)) [
+                | yes g ↦ e-is ∙ sym (end-by-head starts head fields i g) ∙ sym (last-there g)
                 | no g ↦
-                    let more : i + 1 < w .fields = omega (arith, g) in
-                    e-is ∙ sym (end-by-next starts (w .head) (w .fields) i (getD starts (i + 1) 0) refl more) ∙ omega (arith, next-there more)
+                    let more : i + 1 < fields = omega (arith, g) in
+                    e-is ∙ sym (end-by-next starts head fields i (getD starts (i + 1) 0) refl more) ∙ omega (arith, next-there more)
               ]
 
   -- ---- for callers
@@ -363,7 +399,7 @@ module _ (s starts colons : List ℕ) (w : Places) (x : Placed s starts colons w
   written-some : 0 < length written
   written-some = token-long written is-token
 
-  says : FieldSays s (a .request) (w .head) i (parts-of at l)
+  says : FieldSays s (a .request) head i (parts-of at l)
   says = record {
     list =
         the-field .there
@@ -375,13 +411,13 @@ module _ (s starts colons : List ℕ) (w : Places) (x : Placed s starts colons w
     inside = omega (arith, long-l, at-le, end-le);
   }
 
-  pub field-says : (q : Request) → read-request s ≡ some q → FieldSays s q (w .head) i (field-parts (head-of s) i)
+  pub field-says : (q : Request) → read-request s ≡ some q → FieldSays s q head i (field-parts (head-of s) i)
   field-says q e =
       let same : a .request ≡ q = Option·some-injective (a .request) q (sym (a .read) ∙ e) in
-      subst (λ (r : FieldParts). FieldSays s q (w .head) i r) (sym parts-so) (subst (λ (y : Request). FieldSays s y (w .head) i (parts-of at l)) same says)
+      subst (λ (r : FieldParts). FieldSays s q head i r) (sym parts-so) (subst (λ (y : Request). FieldSays s y head i (parts-of at l)) same says)
 
--- what `read` wrote
--- what `read` leaves
+-- ---- what `read` leaves
+
 module _ (s starts colons starts′ colons′ : List ℕ) (w : Places) (k : Read s starts colons starts′ colons′ (Readable w)) where
   a-read : Accepts s (w .head) (w .method) (w .uri) (fields-start (head-of s))
   a-read = accepted-by s w (k .answer)
@@ -406,3 +442,27 @@ module _ (s starts colons starts′ colons′ : List ℕ) (w : Places) (k : Read
     starts-are = ap (take (w .fields)) (k .starts-are) ∙ take-at (starts-of (head-of s) (read-request s)) _ (w .fields) starts-long;
     colons-are = ap (take (w .fields)) (k .colons-are) ∙ take-at (colons-of (head-of s) (read-request s)) _ (w .fields) colons-long;
   }
+
+-- ---- the fields' places alone
+
+pub fielded : (s starts colons : List ℕ) (w : Places) → Placed s starts colons w → read-request s ≡ some (request-of s) → Fielded s starts colons (w .head) (w .fields)
+fielded s starts colons w k e = record {
+  read = e;
+  head-is = sym (readable-head (head-of s) (read-request s) w (request-of s) (k .read) e);
+  count = sym (readable-count (head-of s) (read-request s) w (request-of s) (k .read) e);
+  starts-are = k .starts-are;
+  colons-are = k .colons-are;
+}
+
+-- once they are written, and where body lines begin is still to be found
+module _ (s starts colons : List ℕ) (j : Judged) (ej : j ≡ judged (head-of s) (read-request s)) (e m u f : ℕ) (ea : j ≡ Accepted e m u f)
+    (starts′ colons′ : List ℕ) (n : ℕ) (k : Filled (take (e - 0) (drop 0 s)) f starts colons starts′ colons′ n) where
+  abbrev found : Places
+  found = record { method = m; uri = u; head = e; fields = n; lines = lines-start (head-of s) (request-of s) }
+
+  pub filled-fields : Fielded s starts′ colons′ e n
+  filled-fields =
+      fielded s starts′ colons′ found
+      (placed s starts colons starts′ colons′ found
+      (read-accepted s starts colons j ej e m u f ea starts′ colons′ n k (lines-start (head-of s) (request-of s)) refl))
+      (read-some s starts colons j ej e m u f ea)

@@ -1,5 +1,6 @@
 pub mod Accepted
 pub mod Answers
+pub mod Described
 pub mod Ends
 pub mod Few
 pub mod Fields

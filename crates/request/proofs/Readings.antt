@@ -11,15 +11,16 @@ use Rattle.octets.proofs.Options.{Ok}
 use Rattle.cuts.specs.Parts.{part}
 use Rattle.contents.specs.Body.{session-lines}
 use Rattle.request.specs.Request.{request-lines, Request, read-request}
-use Rattle.request.specs.Places.{head-of, fields-start, Read, Placed, Rooms, or-blank, request-of, field-parts}
+use Rattle.request.specs.Places.{head-of, fields-start, lines-start, Read, Placed, Fielded, Rooms, or-blank, request-of, field-parts}
 use Rattle.request.specs.declared.FieldParts.{FieldParts}
 use Rattle.request.specs.declared.Places.{Places}
 use Rattle.request.specs.declared.Reading.{Reading}
 use Rattle.request.specs.declared.Reading.the-variants.{Unreadable, Readable}
 use Rattle.request.proofs.Accepted.{Accepts}
 use Rattle.request.proofs.Answers.{read-none}
+use Rattle.request.proofs.Described.{start-inside, lines-there}
 use Rattle.request.proofs.Few.{weight, request-few, Small, request-small}
-use Rattle.request.proofs.Indexing.{FieldSays, accepted-by, few, field-says, placed, readable-count, readable-lines}
+use Rattle.request.proofs.Indexing.{FieldSays, accepted-by, few, field-says, placed, fielded, readable-count, readable-lines}
 
 -- the request that is read
 pub request-of-is : (s : List ℕ) (q : Request) → read-request s ≡ some q → request-of s ≡ q
@@ -50,6 +51,9 @@ module _ (s starts colons : List ℕ) (p : Places) (k : Placed s starts colons p
   pub short : length s ≤ 65535
   short = accepted .short
 
+  pub places-alone : Fielded s starts colons (p .head) (p .fields)
+  places-alone = fielded s starts colons p k reads-so
+
   -- ---- its method and its URI
 
   pub method-is : take (p .method - 0) s ≡ request-of s .method
@@ -72,16 +76,15 @@ module _ (s starts colons : List ℕ) (p : Places) (k : Placed s starts colons p
 
   -- ---- its body lines
 
-  lines-place : p .lines ≡ p .head + 4
+  lines-place : p .lines ≡ lines-start (head-of s) (request-of s)
   lines-place = readable-lines (head-of s) (read-request s) p (request-of s) (k .read) reads-so
 
   pub lines-inside : p .lines ≤ length s
-  lines-inside = omega (arith, accepted .body-inside, lines-place)
+  lines-inside = omega (arith, lines-place, start-inside s starts colons (p .head) (p .fields) places-alone)
 
   -- those of the bytes from their place on
   pub lines-are : session-lines (drop (p .lines) s) ≡ request-lines (request-of s)
-  unfolding request-lines
-  lines-are = ap session-lines (ap (λ (i : ℕ). drop i s) lines-place ∙ sym (ap (λ (q : Request). q .body) request-is ∙ accepted .body-is))
+  lines-are = ap (λ (i : ℕ). session-lines (drop i s)) lines-place ∙ lines-there s starts colons (p .head) (p .fields) places-alone
 
   -- ---- its fields
 
@@ -99,12 +102,12 @@ module _ (s starts colons : List ℕ) (p : Places) (k : Placed s starts colons p
 
   module _ (i : ℕ) (more : i < p .fields) where
     pub index-room : i + 1 < 18446744073709551616
-    index-room = omega (arith, few s starts colons p k i more)
+    index-room = omega (arith, few s starts colons (p .head) (p .fields) places-alone i more)
 
     pub field-said : (f : FieldParts) → f ≡ field-parts (head-of s) i → FieldSays s (request-of s) (p .head) i f
     field-said f e =
         subst (λ (x : FieldParts). FieldSays s (request-of s) (p .head) i x) (sym e)
-        (field-says s starts colons p k i more (request-of s) reads-so)
+        (field-says s starts colons (p .head) (p .fields) places-alone i more (request-of s) reads-so)
 
 -- ---- what `read` leaves
 
@@ -126,8 +129,8 @@ module _ (s starts colons starts′ colons′ : List ℕ) (rd : Reading) (k : Re
     method-end = method-inside s starts′ colons′ p readable
 
     -- what is readable has at most 65,535 bytes, for which there is room
-    pub value-room : (room : List ℕ) → Rooms s starts colons room → length s ≤ length room
-    value-room room w = w .for-room (short s starts′ colons′ p readable)
+    pub value-room : (room room′ : List ℕ) → Rooms s starts colons room → length room′ ≡ length room → length s ≤ length room′
+    value-room room room′ w e = omega (arith, w .for-room (short s starts′ colons′ p readable), e)
 
 -- rooms of a length, for a request that is no longer
 pub rooms-of : (m : ℕ) (s starts colons room : List ℕ) → (length s ≤ 65535 → length s ≤ m) → m ≤ 4 * length starts → m ≤ 4 * length colons → m ≤ length room

@@ -7,15 +7,18 @@ use mathlib.Core.List.{List, [], _∷_, _++_}
 use lib.Dec.{T}
 use Rattle.octets.specs.Lists.{text, every, same}
 use Rattle.contents.specs.Body.{Line, session-lines}
-use Rattle.request.specs.Request.{Request, Field, read-request}
+use Rattle.request.specs.Request.{Request, Field, read-request, is-description}
 
--- a request that is read or not; the names and the values of one with these fields; the lines of a body
+-- a request that is read or not; the names and the values of one with these fields; the lines of a body; whether
+-- fields say that the body is a session description
 pub data Example : Type 0 where
   is-read : List ℕ → Example
   is-unreadable : List ℕ → Example
   names : String → List String → Example
   values : String → List String → Example
   body : String → List String → Example
+  described : String → Example
+  undescribed : String → Example
 
 abbrev was-read : Option Request → Bool
 was-read none = false
@@ -44,17 +47,23 @@ abbrev of-fields : (List Field → List (List ℕ)) → Option Request → List 
 of-fields part none expected = false
 of-fields part (some q) expected = all-same (part (q .fields)) expected
 
+abbrev describes : Option Request → Bool
+describes none = false
+describes (some q) = is-description q
+
 -- a request with these fields
 abbrev with : String → List ℕ
 with fields = text "A b SIP/2.0\r\n" ++ text fields ++ text "\r\n\r\n"
 
 unfoldable pub right : Example → Bool
-unfolding read-request session-lines
+unfolding read-request session-lines is-description
 right (is-read s) = was-read (read-request s)
 right (is-unreadable s) = not (was-read (read-request s))
 right (names fields expected) = of-fields names-in (read-request (with fields)) expected
 right (values fields expected) = of-fields values-in (read-request (with fields)) expected
 right (body b expected) = all-same (lines-in (session-lines (text b))) expected
+right (described fields) = describes (read-request (with fields))
+right (undescribed fields) = not (describes (read-request (with fields)))
 
 unfoldable pub examples : List Example
 examples =
@@ -112,6 +121,19 @@ examples =
     -- body lines
     ∷ body "v=0\r\nm=a\r\r\nx\r\n\r\n==\n=\nc=\r" ("v0" ∷ "ma\r" ∷ "=" ∷ "c\r" ∷ [])
     ∷ body "a=1\rb=2" ("a1\rb=2" ∷ [])
+    -- one Content-Type field, its short form too, with one value
+    ∷ described "Content-Type: application/sdp"
+    ∷ described "C : Application/SDP ;charset=utf-8\r\nTo: a"
+    ∷ described "CONTENT-TYPE:\r\n application/sdp\r\n ;a=\"x,y\""
+    ∷ undescribed "To: application/sdp"
+    ∷ undescribed "Content-Type: application/sdp\r\nc: application/sdp"
+    ∷ undescribed "Content-Type: application/sdp,"
+    ∷ undescribed "Content-Type: application/sdp;a,b"
+    ∷ undescribed "Content-Type: application/sdpx"
+    ∷ undescribed "Content-Type: application / sdp"
+    ∷ undescribed "Content-Type: \"application/sdp\""
+    ∷ undescribed "Content-Type:"
+    ∷ undescribed "Content-Types: application/sdp"
     ∷ []
 
 -- every example is right

@@ -4,11 +4,11 @@ use mathlib.Core.Path.{_≡_}
 use mathlib.Core.List.{List, [], _∷_}
 use Prim.Native.Nat.{ℕ, _+_, _*_, _≤_}
 use lib.ListN.{length, getD, take}
-use Rattle.octets.specs.Lists.{text}
+use Rattle.octets.specs.Lists.{text, pick}
 use Rattle.cuts.specs.Cutting.{first-cut, cut-by, before-cut, first-line, later-lines}
 use Rattle.cuts.specs.Parts.{over}
 use Rattle.cuts.specs.Trimming.{trim-right}
-use Rattle.request.specs.Request.{empty-line, head-lines, whole-fields, Request, read-request}
+use Rattle.request.specs.Request.{empty-line, head-lines, whole-fields, Request, read-request, is-description}
 use Rattle.request.specs.declared.FieldParts.{FieldParts}
 use Rattle.request.specs.declared.Places.{Places}
 use Rattle.request.specs.declared.Reading.{Reading}
@@ -48,14 +48,18 @@ line-colons at (l ∷ ls) = (at + colon-in l) ∷ line-colons (at + length l + 2
 
 -- ---- the answer of reading
 
--- where method, URI and head end, how many fields there are, and where body lines begin: behind the head's CR LF CR LF
+-- where body lines begin: behind the head's CR LF CR LF, or at the end where the body is no session description
+abbrev pub lines-start : List ℕ → Request → ℕ
+lines-start h q = length h + 4 + pick (is-description q) 0 (length (q .body))
+
+-- where method, URI and head end, how many fields there are, and where body lines begin
 abbrev pub places-of : List ℕ → Request → Places
 places-of h q = record {
   method = length (q .method);
   uri = length (q .method) + 1 + length (q .uri);
   head = length h;
   fields = length (q .fields);
-  lines = length h + 4;
+  lines = lines-start h q;
 }
 
 abbrev pub reading : List ℕ → Option Request → Reading
@@ -88,12 +92,6 @@ pub record Placed (s starts colons : List ℕ) (p : Places) : Type 0 where
   pub starts-are : take (p .fields) starts ≡ starts-of (head-of s) (read-request s)
   pub colons-are : take (p .fields) colons ≡ colons-of (head-of s) (read-request s)
 
--- rooms for the fields' places and a value of a request; one longer than 65,535 bytes is not read
-pub record Rooms (s starts colons room : List ℕ) : Type 0 where
-  pub for-starts : Room s starts
-  pub for-colons : Room s colons
-  pub for-room : length s ≤ 65535 → length s ≤ length room
-
 abbrev pub or-blank : Option Request → Request
 or-blank none = record { method = []; uri = []; fields = []; body = [] }
 or-blank (some q) = q
@@ -102,6 +100,20 @@ or-blank (some q) = q
 unfoldable pub request-of : List ℕ → Request
 unfolding read-request
 request-of s = or-blank (read-request s)
+
+-- the bytes are readable, their head and how many fields it has, and the fields' places are those that `read` wrote
+pub record Fielded (s starts colons : List ℕ) (head fields : ℕ) : Type 0 where
+  pub read : read-request s ≡ some (request-of s)
+  pub head-is : head ≡ length (head-of s)
+  pub count : fields ≡ length (request-of s .fields)
+  pub starts-are : take fields starts ≡ starts-of (head-of s) (read-request s)
+  pub colons-are : take fields colons ≡ colons-of (head-of s) (read-request s)
+
+-- rooms for the fields' places and a value of a request; one longer than 65,535 bytes is not read
+pub record Rooms (s starts colons room : List ℕ) : Type 0 where
+  pub for-starts : Room s starts
+  pub for-colons : Room s colons
+  pub for-room : length s ≤ 65535 → length s ≤ length room
 
 -- ---- one field
 

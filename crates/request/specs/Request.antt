@@ -11,6 +11,7 @@ use Rattle.octets.specs.Bytes.{within, same-any-case, token, white, uri-byte}
 use Rattle.cuts.specs.Cutting.{first-cut, cut-by, cut-at}
 use Rattle.cuts.specs.Trimming.{trim-right}
 use Rattle.contents.specs.Body.{Line, session-lines}
+use Rattle.contents.specs.Description.{content-type, says-description, one-description}
 use Rattle.contents.specs.Names.{name-as-matched}
 use Rattle.contents.specs.Values.{reduced, values-of}
 
@@ -129,7 +130,19 @@ read-request s = do
   _ ← holds (bytes-right (c .before))
   head (head-lines (c .before)) (c .after)
 
--- the lines that a session description row is held against
+-- ---- whether the body is a session description (document 02, change request 5)
+
+-- "there is exactly one Content-Type field, with one value": by the fields of that name
+abbrev pub described-by : List Field → Bool
+described-by [] = false
+described-by (f ∷ []) = one-description (f .values)
+described-by (f ∷ g ∷ fs) = false
+
+unfoldable pub is-description : Request → Bool
+unfolding says-description
+is-description q = described-by (only (λ f. content-type (f .name)) (q .fields))
+
+-- the lines that a session description row is held against: "The body now has session lines only if" it is one
 unfoldable pub request-lines : Request → List Line
-unfolding session-lines
-request-lines q = session-lines (q .body)
+unfolding session-lines is-description
+request-lines q = pick (is-description q) (session-lines (q .body)) []

@@ -6,15 +6,17 @@ ghost use Prim.Native.Nat.{_+_, _-_, _≤_, _<_};
 ghost use lib.Dec.{T, ltb};
 ghost use lib.ListN.{length, getD};
 ghost use Rattle.octets.specs.Lists.{pick};
-ghost use Rattle.request.specs.Places.{head-of, Room, Read, Placed, field-parts};
+ghost use Rattle.request.specs.Places.{head-of, Rooms, Read, Placed, Fielded, field-parts};
 ghost use Rattle.request.specs.Request.{paired, head-lines, head, read-request};
 ghost use Rattle.request.specs.Steps.{judged, Fillable, Filled};
 
+mod descriptions;
 mod field_lines;
 mod head_bytes;
 mod head_ends;
 mod start_lines;
 
+use crate::descriptions::lines_start;
 use crate::field_lines::are_fields;
 use crate::field_lines::line_end;
 use crate::head_bytes::bytes_right;
@@ -114,9 +116,10 @@ pub enum Reading {
 }
 
 // Reads a request. The places of each field's line and of its colon go to the front of the lent places, which are at least a quarter as
-// many as the request has bytes, since a field takes four; nothing is written where the request is unreadable.
-pub fn read(s: &[u8], starts: &mut [u16], colons: &mut [u16]) -> Reading
-    requires { ⌜ Room (now s) (now starts) × Room (now s) (now colons) ⌝ }
+// many as the request has bytes, since a field takes four; none of them is written where the request is unreadable. What stands in the
+// room afterwards means nothing.
+pub fn read(s: &[u8], starts: &mut [u16], colons: &mut [u16], room: &mut [u8]) -> Reading
+    requires { ⌜ Rooms (now s) (now starts) (now colons) (now room) ⌝ }
     ensures { λ r. ⌜ Read (now (s .entry)) (now (starts .entry)) (now (colons .entry)) (now (starts .exit)) (now (colons .exit)) r ⌝ }
 {
     match judge(s) {
@@ -128,12 +131,13 @@ pub fn read(s: &[u8], starts: &mut [u16], colons: &mut [u16]) -> Reading
             fields,
         } => {
             let n = fill(&s[0..head], fields, starts, colons);
+            let lines = lines_start(s, starts, colons, head, n, room);
             Reading::Readable(Places {
                 method,
                 uri,
                 head,
                 fields: n,
-                lines: head + 4,
+                lines,
             })
         }
     }
@@ -160,19 +164,34 @@ pub struct FieldParts {
     pub end: usize,
 }
 
-// Field i of a request, from the places that `read` wrote: no line is looked for again.
-pub fn field_at(s: &[u8], starts: &[u16], colons: &[u16], places: Places, i: usize) -> FieldParts
-    requires { ⌜ Placed (now s) (now starts) (now colons) places × (i < places .fields) ⌝ }
+// Field i of a head, from the places that `read` wrote: no line is looked for again.
+pub(crate) fn parts_at(
+    s: &[u8],
+    starts: &[u16],
+    colons: &[u16],
+    head: usize,
+    fields: usize,
+    i: usize,
+) -> FieldParts
+    requires { ⌜ Fielded (now s) (now starts) (now colons) head fields × (i < fields) ⌝ }
     ensures { λ r. ⌜ r ≡ field-parts (head-of (now (s .entry))) i ⌝ }
 {
     let a = octets::as_index(starts[i]);
     let k = octets::as_index(colons[i]);
     let n = cuts::trimmed_end(&s[a..k]);
-    let e = field_end(starts, places.head, places.fields, i);
+    let e = field_end(starts, head, fields, i);
     FieldParts {
         name: a,
         stop: a + n,
         value: k + 1,
         end: e,
     }
+}
+
+// Field i of a request that was read.
+pub fn field_at(s: &[u8], starts: &[u16], colons: &[u16], places: Places, i: usize) -> FieldParts
+    requires { ⌜ Placed (now s) (now starts) (now colons) places × (i < places .fields) ⌝ }
+    ensures { λ r. ⌜ r ≡ field-parts (head-of (now (s .entry))) i ⌝ }
+{
+    parts_at(s, starts, colons, places.head, places.fields, i)
 }

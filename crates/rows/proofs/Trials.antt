@@ -9,9 +9,8 @@ use Rattle.octets.proofs.Kept.{total-mono, total-const}
 use Rattle.basic.specs.Pattern.{Pattern}
 use Rattle.pattern.specs.Matching.{written-matches, name-matches}
 use Rattle.profile.specs.Image.{Test, request-uri, method, header, session-case, description, Row}
-use Rattle.contents.proofs.Small.{session-lines-length}
 use Rattle.request.specs.Request.{Request, request-lines}
-use Rattle.request.proofs.Few.{weight, Small}
+use Rattle.request.proofs.Few.{weight, Small, body-lines-few}
 use Rattle.rows.specs.Rows.{content-trials, field-trials, line-trials, test-trials, row-trials}
 
 content-le : (c : Option Pattern) (b : Bool) (n : ℕ) → content-trials c b n ≤ n
@@ -20,7 +19,7 @@ content-le (some c) true n = le-refl n
 content-le (some c) false n = zero-le
 
 test-le : (q : Request) → Small q → (t : Test) → test-trials q t ≤ 262143
-unfolding test-trials request-lines
+unfolding test-trials
 test-le q h (request-uri u) = omega arith
 test-le q h (method m set) = omega arith
 test-le q h (header p c) =
@@ -35,8 +34,7 @@ test-le q h (description p c) =
       total-mono (line-trials p c) (λ l. 2)
           (λ l. omega (arith, content-le c (written-matches p (l .type)) 1)) (request-lines q),
       total-const 2 (request-lines q),
-      session-lines-length (q .body),
-      h .body-le,
+      body-lines-few q h,
     )
 
 -- a row's trials

@@ -104,11 +104,15 @@ examples =
     ∷ is (header-holds "From" "joe") "A b SIP/2.0\r\nFrom: ann\r\nTo: joe\r\n\r\n" false 3
     ∷ is (header-holds "From" "joe") "A b SIP/2.0\r\nFrom: ann\r\nFrom: joe\r\n\r\n" true 4
     ∷ is (header-holds "From" "JOE") "A b SIP/2.0\r\nFrom: joe\r\n\r\n" false 2
-    -- lines: one value each, matched as written
-    ∷ is (line-meets "m") "A b SIP/2.0\r\n\r\nv=0\r\nm=audio\r\n" true 2
-    ∷ is (line-meets "M") "A b SIP/2.0\r\n\r\nv=0\r\nm=audio\r\nx\r\n" false 2
-    ∷ is (line-holds "m" "audio") "A b SIP/2.0\r\n\r\nv=0\r\nm=audio\r\nm=video" true 5
-    ∷ is (line-holds "v" "audio") "A b SIP/2.0\r\n\r\nv=0\r\nm=audio" false 3
+    -- lines of a session description: one value each, matched as written
+    ∷ is (line-meets "m") "A b SIP/2.0\r\nc: application/sdp\r\n\r\nv=0\r\nm=audio\r\n" true 2
+    ∷ is (line-meets "M") "A b SIP/2.0\r\nc: application/sdp\r\n\r\nv=0\r\nm=audio\r\nx\r\n" false 2
+    ∷ is (line-holds "m" "audio") "A b SIP/2.0\r\nc: application/sdp\r\n\r\nv=0\r\nm=audio\r\nm=video" true 5
+    ∷ is (line-holds "v" "audio") "A b SIP/2.0\r\nc: application/sdp\r\n\r\nv=0\r\nm=audio" false 3
+    -- of another body: none, and no trial
+    ∷ is (line-meets "m") "A b SIP/2.0\r\n\r\nm=audio" false 0
+    ∷ is (line-holds "m" "x") "A b SIP/2.0\r\nContent-Type: application/pidf+xml\r\n\r\nm=x" false 0
+    ∷ isn't (line-meets "m") "A b SIP/2.0\r\nc: application/sdp\r\nc: application/sdp\r\n\r\nm=audio" true 0
     ∷ []
 
 -- every example is right

@@ -181,6 +181,9 @@ fn padded(before: &[u8], pad: u8, after: &[u8], size: usize) -> Vec<u8> {
     request
 }
 
+/// The end of a request whose Content-Type is long.
+const TYPED: &[u8] = b"application/sdp\r\n\r\na=c";
+
 /// Requests about 65,535 bytes, long by head, by body, by one value, by many fields.
 fn requests() -> Vec<Case> {
     let mut draft = Draft::new();
@@ -196,7 +199,9 @@ fn requests() -> Vec<Case> {
             let long = [
                 ("value", padded(format!("{start}X: ").as_bytes(), b'y', b"z\r\n\r\n", size)),
                 ("URI", padded(&start.as_bytes()[..8], b'u', b" SIP/2.0\r\n\r\n", size)),
-                ("body", padded(format!("{start}\r\na=").as_bytes(), b'b', b"c", size)),
+                ("body", padded(format!("{start}c: application/sdp\r\n\r\na=").as_bytes(), b'b', b"c", size)),
+                ("other body", padded(format!("{start}\r\na=").as_bytes(), b'b', b"c", size)),
+                ("Content-Type", padded(format!("{start}c:").as_bytes(), b' ', TYPED, size)),
                 ("blanks", padded(format!("{start}X:").as_bytes(), b' ', b"z\r\n\r\n", size)),
                 ("commas", padded(format!("{start}X:").as_bytes(), b',', b"\r\n\r\n", size)),
                 ("no end of head", padded(format!("{start}X:").as_bytes(), b'v', b"", size)),
@@ -220,7 +225,7 @@ fn heavy() -> Vec<Case> {
     let line = draft.text_row(4, b"a", Some(&b"[^b]*".repeat(60)));
     draft.single(2, line);
     let value = padded(b"INVITE sip:b SIP/2.0\r\nX: ", b'a', b"b\r\n\r\n", 65_535);
-    let body = padded(b"INVITE sip:b SIP/2.0\r\n\r\na=", b'a', b"", 65_535);
+    let body = padded(b"INVITE sip:b SIP/2.0\r\nc: application/sdp\r\n\r\na=", b'a', b"", 65_535);
     let image = draft.bytes();
     vec![
         build::advance("limit: 60 repeating elements on a long value", &image, &value, build::READY),

@@ -66,8 +66,10 @@ pub fn after(last: u32) -> Session {
     Session { forwarded: 1, last, ..READY }
 }
 
-pub const INVITE: &[u8] = b"INVITE sip:b SIP/2.0\r\nFrom: joe\r\n\r\nm=audio\r\n";
-pub const REGISTER: &[u8] = b"REGISTER sip:b SIP/2.0\r\nFrom: joe\r\n\r\nm=audio\r\n";
+/// Both have a session description.
+pub const INVITE: &[u8] =
+    b"INVITE sip:b SIP/2.0\r\nFrom: joe\r\nContent-Type: application/sdp\r\n\r\nm=audio\r\n";
+pub const REGISTER: &[u8] = b"REGISTER sip:b SIP/2.0\r\nFrom: joe\r\nc: application/sdp\r\n\r\nm=audio\r\n";
 
 /// The session an advance or a report hands back.
 pub fn session_after(case: &Case) -> Session {

@@ -2,6 +2,7 @@
 
 use super::draft::{case_row, Draft, RowDraft, ABSENT, CNF, DNF};
 use super::random::Random;
+use super::types;
 use crate::request::{self, Request};
 
 const METHODS: &[&str] = &["INVITE", "MESSAGE", "SUBSCRIBE", "BYE", "invite", "X-a.1", "register", "OPTIONS"];
@@ -74,14 +75,26 @@ pub fn method(random: &mut Random) -> Vec<u8> {
     random.pick(METHODS).as_bytes().to_vec()
 }
 
-/// A readable request with folds, tabs, quoted commas and a body.
+/// A readable request with folds, tabs, quoted commas and a body, which is mostly a session description.
 pub fn request(random: &mut Random, method: &[u8]) -> Vec<u8> {
     let uri = *random.pick(&[b"sip:b".as_slice(), b"tel:+1", b"sip:B", b"\"<>"]);
-    let mut out = [method, b" ", uri, b" SIP/2.0\r\n"].concat();
-    for _ in 0..random.below(6) {
-        field(random, &mut out);
+    let body = body(random);
+    let described = !body.is_empty() && random.chance(3, 4);
+    let mut fields: Vec<Vec<u8>> = (0..random.below(6)).map(|_| field(random, described)).collect();
+    let kinds = match described {
+        true => vec![types::right(random)],
+        false if body.is_empty() && random.chance(2, 3) => Vec::new(),
+        false => types::other(random),
+    };
+    for kind in kinds {
+        let place = random.below(fields.len() + 1);
+        fields.insert(place, kind);
     }
-    out.extend(b"\r\n");
+    [method, b" ", uri, b" SIP/2.0\r\n", &fields.concat(), b"\r\n", &body].concat()
+}
+
+fn body(random: &mut Random) -> Vec<u8> {
+    let mut out = Vec::new();
     for _ in 0..random.below(5) {
         out.extend(*random.pick(LINES));
     }
@@ -91,9 +104,14 @@ pub fn request(random: &mut Random, method: &[u8]) -> Vec<u8> {
     out
 }
 
-fn field(random: &mut Random, out: &mut Vec<u8>) {
+/// Of any name; where the body is described, none but one of Content-Type.
+fn field(random: &mut Random, described: bool) -> Vec<u8> {
     let names = if random.chance(1, 3) { SHORT_NAMES } else { NAMES };
-    out.extend(random.pick(names).bytes());
+    let mut name = *random.pick(names);
+    while described && ["Content-Type", "c", "C"].contains(&name) {
+        name = *random.pick(names);
+    }
+    let mut out = name.as_bytes().to_vec();
     out.extend(random.pick(&["", "", "", " ", "\t "]).bytes());
     out.push(b':');
     for place in 0..random.below(4) {
@@ -105,6 +123,7 @@ fn field(random: &mut Random, out: &mut Vec<u8>) {
         out.extend(random.pick(&["", "", " ", "\r\n\t"]).bytes());
     }
     out.extend(b"\r\n");
+    out
 }
 
 /// A pattern that fits some part of the text, more often than not.
@@ -209,10 +228,10 @@ fn header_row(random: &mut Random, draft: &mut Draft, request: &Request) -> RowD
 }
 
 fn line_row(random: &mut Random, draft: &mut Draft, request: &Request) -> RowDraft {
-    if request.lines.is_empty() {
+    if request.body_lines.is_empty() {
         return draft.text_row(4, b"v", None);
     }
-    let line = random.pick(&request.lines);
+    let line = random.pick(&request.body_lines);
     let kind = pattern(random, &[line.kind]);
     let content = random.chance(2, 3).then(|| pattern(random, &line.value));
     draft.text_row(4, &kind, content.as_deref())
@@ -242,7 +261,8 @@ pub fn image(random: &mut Random, request: &[u8], case: u32) -> Draft {
         method: b"INVITE".to_vec(),
         uri: b"sip:b".to_vec(),
         fields: Vec::new(),
-        lines: Vec::new(),
+        body_lines: Vec::new(),
+        described: false,
     });
     let mut draft = Draft::new();
     draft.strings.extend([Vec::new(), b"information".to_vec(), b"sip:c".to_vec()]);

@@ -80,12 +80,16 @@ fn requests() -> Vec<Case> {
         draft.single(place as u32, row);
     }
     let image = draft.bytes();
-    let shapes: [(&str, &[u8], &[u8], &[u8]); 10] = [
+    let shapes: [(&str, &[u8], &[u8], &[u8]); 14] = [
         ("fields", b"", b"X:\r\n", b"\r\n"),
         ("folds", b"X:", b"\r\n y", b"\r\n\r\n"),
         ("blank folds", b"X:", b"\r\n\t", b"\r\n\r\n"),
-        ("lines", b"\r\n", b"a=\n", b""),
-        ("empty lines", b"\r\n", b"\r\n", b""),
+        ("lines", b"c: application/sdp\r\n\r\n", b"a=\n", b""),
+        ("empty lines", b"Content-Type: application/sdp\r\n\r\n", b"\r\n", b""),
+        ("lines of another body", b"c: text/plain\r\n\r\n", b"a=\n", b""),
+        ("Content-Type fields", b"", b"c: application/sdp\r\n", b"\r\na="),
+        ("fields before Content-Type", b"", b"X:\r\n", b"c: application/sdp\r\n\r\na="),
+        ("folds in Content-Type", b"c: application/sdp", b"\r\n ", b";x\r\n\r\na="),
         ("quoted commas", b"X:", b"\"\\\",\",", b"\r\n\r\n"),
         ("commas in <>", b"X:", b"<,\">,y,", b"\r\n\r\n"),
         ("never cut", b"Subject:", b"y,", b"\r\n\r\n"),

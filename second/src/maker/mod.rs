@@ -12,6 +12,7 @@ pub mod patterns;
 pub mod points;
 pub mod random;
 pub mod requests;
+pub mod types;
 pub mod walks;
 
 use crate::case::{self, Case};

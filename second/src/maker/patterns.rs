@@ -80,12 +80,12 @@ pub fn probes(pattern: &[u8]) -> Vec<Vec<u8>> {
     texts
 }
 
-/// The text as a body line's value: it may have any byte but LF.
+/// The text as a session line's value: it may have any byte but LF.
 pub fn on_line(label: &str, pattern: &[u8], text: &[u8]) -> Case {
     let mut draft = Draft::new();
     let row = draft.text_row(4, b"x", Some(pattern));
     draft.single(7, row);
-    let request = [b"INVITE sip:b SIP/2.0\r\n\r\nx=", text].concat();
+    let request = [b"INVITE sip:b SIP/2.0\r\nc:application/sdp\r\n\r\nx=", text].concat();
     build::advance(&format!("{label} on {}", text.escape_ascii()), &draft.bytes(), &request, build::READY)
 }
 

@@ -21,8 +21,9 @@ pub const WRITTEN: &[&[u8]] = &[
     b"X: a\n b\r\n\r\n", b"X: a\r\r\n\r\n", b"X: a\n\r\n\r\n", b"X: a\r\n\r\r\n\r\n",
     b"X: a\r\n\n\r\n\r\n", b"X: a\n\n", b"X: a\r\n", b"X: a\r\n\r", b"X: a\r\n\n", b"", b"\r", b"\n",
     b"\n\r\n", b"\r\n\r\n", b"\r\nX: a\r\n\r\n", b"X: a\r\n\r\n\r\n\r\nb=c",
-    b"X: a\r\n\r\nb=c\r\n\r\nd=e", b"X:  a  b \t c  \r\n\r\n", b"X: a\t\tb\r\n\r\n",
-    b"X: \xA0a\xA0\r\n\r\n", b"Content-Length: 0\r\n\r\nv=0\r\n", b"X: a\r\n\r\nv=0\r\no=-\r\ns= \r\n",
+    b"X: a\r\nc: application/sdp\r\n\r\nb=c\r\n\r\nd=e", b"X:  a  b \t c  \r\n\r\n", b"X: a\t\tb\r\n\r\n",
+    b"X: \xA0a\xA0\r\n\r\n", b"Content-Length: 0\r\nc: application/sdp\r\n\r\nv=0\r\n",
+    b"X: a\r\nc: application/sdp\r\n\r\nv=0\r\no=-\r\ns= \r\n",
     b"From: joe\r\nFrom: ann\r\nTo: joe\r\n\r\n", b"From: ann, joe\r\n\r\n",
     // Values and where they are cut (R7 to R11).
     b"X: a", b"X: a,b\r\n\r\n", b"X: a , b\r\n\r\n", b"X: a,\r\n\r\n", b"X: ,a\r\n\r\n",
@@ -46,18 +47,23 @@ pub const WRITTEN: &[&[u8]] = &[
     b"s: a,b\r\n\r\n", b"S: a,b\r\n\r\n", b"s :  a \t , \r\n b  \r\n\r\n", b"ss: a,b\r\n\r\n",
     b"X-Subject: a,b\r\n\r\n", b"Subject-X: a,b\r\n\r\n",
     b"Up-Date: a,b\r\n\r\n", b"Authentication-Info: a,b\r\n\r\n", b"Dat: a,b\r\n\r\n",
-    b"Date: Sat, 13 Nov 2010\r\nSubject: a, b\r\nX: a, b\r\n\r\nv=0\r\n",
+    b"Date: Sat, 13 Nov 2010\r\nSubject: a, b\r\nX: a, b\r\nContent-Type: application/sdp\r\n\r\nv=0\r\n",
     // Short names (1.1 to 1.7).
     b"f: a,b\r\n\r\n", b"F : a\r\nFrom: b\r\n\r\n", b"v: a\r\nv: b\r\nVia: c\r\n\r\n", b"o: a,b\r\n\r\n",
     b"f\r\n : a\r\n\r\n", b"s@: a,b\r\n\r\n", b"f g: a\r\n\r\n",
     b"i:a\r\nm:a\r\ne:a\r\nl:a\r\nc:a\r\nf:a\r\ns:a\r\nk:a\r\nt:a\r\nv:a\r\n\r\ns=a\r\n",
-    // Bodies (R13 to R16).
-    b"\r\nv=0\no=1\n", b"\r\nv=0\ro=1\r", b"\r\nv=0\r\r\no=1\r\r", b"\r\nv=0\r",
-    b"\r\n=x\r\n==y\r\n=\r\n", b"\r\na=\r\na=", b"\r\na\r\n=\r\nab=c\r\n\r\n\n",
-    b"\r\n\r=a\n\x00=b\n\xFF=c\n =d\n", b"\r\na=b=c\r\n", b"\r\na= b \t\r\n", b"\r\nv=0\r\n\r\nv=1",
-    b"\r\nx=\x00\xFF\r\n", b"\r\n=", b"\r\n==", b"\r\nM=a\r\nm=b\r\n", b"\r\n a=b\r\n", b"\r\na=b\n\r",
-    b"\r\na=b\n\r\r=c",
 ];
+
+/// Bodies (R13 to R16), each behind every head of `TYPES`.
+#[rustfmt::skip]
+pub const BODIES: &[&[u8]] = &[
+    b"v=0\no=1\n", b"v=0\ro=1\r", b"v=0\r\r\no=1\r\r", b"v=0\r", b"=x\r\n==y\r\n=\r\n", b"a=\r\na=",
+    b"a\r\n=\r\nab=c\r\n\r\n\n", b"\r=a\n\x00=b\n\xFF=c\n =d\n", b"a=b=c\r\n", b"a= b \t\r\n", b"v=0\r\n\r\nv=1",
+    b"x=\x00\xFF\r\n", b"=", b"==", b"M=a\r\nm=b\r\n", b" a=b\r\n", b"a=b\n\r", b"a=b\n\r\r=c", b"",
+];
+
+/// The body is a session description, is none, has no Content-Type.
+const TYPES: &[&[u8]] = &[b"c: application/sdp\r\n", b"c: text/plain\r\n", b""];
 
 /// Whole requests: the start line in every shape.
 #[rustfmt::skip]
@@ -79,6 +85,11 @@ pub fn cases() -> Vec<Case> {
         let start = format!("{method} sip:b SIP/2.0\r\n");
         for rest in WRITTEN {
             cases.extend(probed(&[start.as_bytes(), rest].concat()));
+        }
+        for body in BODIES {
+            for kind in TYPES {
+                cases.extend(probed(&[start.as_bytes(), kind, b"\r\n", body].concat()));
+            }
         }
         for line in START_LINES {
             let line = replaced(line, method.as_bytes());
@@ -104,7 +115,7 @@ fn every_byte() -> Vec<Case> {
             (b"REGISTER sip:", b" SIP/2.0\r\nX: a\r\n\r\n"),
             (b"REGISTER sip:b SIP/2.0\r\nX", b"Y: a\r\n\r\n"),
             (b"REGISTER sip:b SIP/2.0\r\nX: a", b"b\r\n\r\n"),
-            (b"REGISTER sip:b SIP/2.0\r\n\r\nx", b"=a\n"),
+            (b"REGISTER sip:b SIP/2.0\r\nc: application/sdp\r\n\r\nx", b"=a\n"),
         ];
         for (before, after) in places {
             let request = [before, &byte, after].concat();
@@ -155,7 +166,7 @@ fn probing_image(request: &[u8]) -> Vec<u8> {
                 rows.push(draft.text_row(2, &exactly(&field.name), Some(&exactly(value))));
             }
         }
-        for line in &request.lines {
+        for line in &request.body_lines {
             rows.push(draft.text_row(4, &exactly(&[line.kind]), Some(&exactly(&line.value))));
         }
     }

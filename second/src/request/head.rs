@@ -163,8 +163,7 @@ fn field(text: &[u8]) -> Option<Field> {
         true => value::values(written, raw),
         false => value::values(&long, raw),
     };
-    let name = if twisted(Twist::WrittenNameTriedToo) { written.to_vec() } else { long };
-    Some(Field { name, values })
+    Some(Field { name: long, written: written.to_vec(), values })
 }
 
 /// Another way to read two fields of one name: as one field with the values of both.

@@ -1,6 +1,7 @@
 //! A readable request, taken apart into what rows ask for.
 
 mod body;
+mod description;
 mod head;
 pub mod name;
 mod value;
@@ -12,14 +13,19 @@ pub struct Request {
     pub method: Vec<u8>,
     pub uri: Vec<u8>,
     pub fields: Vec<Field>,
-    pub lines: Vec<Line>,
+    /// Every body line that is a field, whatever the body is.
+    pub body_lines: Vec<Line>,
+    /// Whether the body is a session description.
+    pub described: bool,
 }
 
 /// A field of the head, with its values as they are matched.
 #[derive(Debug, PartialEq, Eq)]
 pub struct Field {
-    /// As it is matched, not as it is written.
+    /// As it is matched.
     pub name: Vec<u8>,
+    /// No row sees this.
+    pub written: Vec<u8>,
     pub values: Vec<Vec<u8>>,
 }
 
@@ -36,6 +42,15 @@ impl Request {
             return self.method.eq_ignore_ascii_case(b"REGISTER");
         }
         self.method == b"REGISTER"
+    }
+
+    /// "The body now has session lines only if" it is a session description.
+    pub fn session_lines(&self) -> &[Line] {
+        if self.described {
+            &self.body_lines
+        } else {
+            &[]
+        }
     }
 }
 
@@ -59,8 +74,12 @@ pub fn read(text: &[u8]) -> Option<Request> {
         return None;
     }
     let head = head::read(&text[..end])?;
-    let lines = body::lines(&text[end + 4..]);
-    Some(Request { method: head.method, uri: head.uri, fields: head.fields, lines })
+    let described = description::described(&head.fields);
+    if twisted(Twist::OtherBodyUnreadable) && !described && text.len() > end + 4 {
+        return None;
+    }
+    let body_lines = body::lines(&text[end + 4..]);
+    Some(Request { method: head.method, uri: head.uri, fields: head.fields, body_lines, described })
 }
 
 /// "The head runs to the first CR LF CR LF."

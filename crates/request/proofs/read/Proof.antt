@@ -1,5 +1,6 @@
+use Rattle.request.proofs.Answers.{head-inside, fillable, room-enough, read-refused, read-accepted}
+use Rattle.request.proofs.Indexing.{filled-fields}
 use borrow.Author.Needs.{needs}
-use Rattle.request.proofs.Answers.{head-inside, lines-room, fillable, read-refused, read-accepted}
 use Rattle.request.proofs.read.Statement.{statement}
 use Rattle.request.proofs.read.Tie as tie
 
@@ -24,8 +25,8 @@ part-fill-end c = search head-inside
 fill-requires : tie.Need-fill-requires
 fill-requires c κs = search fillable
 
-add-t12 : tie.Need-add-t12
-add-t12 c = record { fits = search lines-room }
+lines-start-requires : tie.Need-lines-start-requires
+lines-start-requires c κs = (search (filled-fields, c .before .before .before .before .before .before .before .before .before .before .before .before .before .before .judge .ensures, c .before .before .before .before .before .before .before .fill .ensures), search (needs, room-enough))
 
 returns : tie.Need-returns
 returns c = search read-refused
@@ -35,6 +36,9 @@ same-length c = search needs
 
 same-length-2 : tie.Need-same-length-2
 same-length-2 c = search needs
+
+same-length-3 : tie.Need-same-length-3
+same-length-3 c = search needs
 
 returns-2 : tie.Need-returns-2
 returns-2 c = search read-accepted
@@ -50,8 +54,9 @@ read-spec =
     part-fill-start
     part-fill-end
     fill-requires
-    add-t12
+    lines-start-requires
     returns
     same-length
     same-length-2
+    same-length-3
     returns-2)

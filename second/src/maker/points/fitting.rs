@@ -97,8 +97,8 @@ fn trial_image() -> Vec<u8> {
     draft.bytes()
 }
 
-const REST: &[u8] = b" sip:b SIP/2.0\r\nFrom: ann, joe, bob\r\nTo: joe\r\nX: joe, joe\r\nfrom:\r\n\r\n\
-    v=0\r\na=x\r\na=y\r\nno\r\n";
+const REST: &[u8] = b" sip:b SIP/2.0\r\nFrom: ann, joe, bob\r\nTo: joe\r\nX: joe, joe\r\nfrom:\r\n\
+    Content-Type: application/sdp;x\r\n\r\nv=0\r\na=x\r\na=y\r\nno\r\n";
 
 fn trial_points() -> Vec<Case> {
     let image = trial_image();

@@ -1,6 +1,7 @@
 //! Each reading marked H, each wrong way document 01 lists, and its worked trigger, with
 //! cases of their own.
 
+mod descriptions;
 mod fitting;
 mod image;
 mod names;
@@ -17,6 +18,7 @@ pub fn cases() -> Vec<Case> {
     cases.extend(image::cases());
     cases.extend(request_points());
     cases.extend(names::cases());
+    cases.extend(descriptions::cases());
     cases.extend(fitting::cases());
     cases.extend(session_points());
     cases.extend(listing_points());
@@ -57,7 +59,7 @@ fn request_points() -> Vec<Case> {
     let without = draft.text_row(4, b"a", Some(b"b$"));
     draft.single(2, without);
     let image = draft.bytes();
-    let invite = |body: &[u8]| [b"INVITE sip:b SIP/2.0\r\n\r\n", body].concat();
+    let invite = |body: &[u8]| [b"INVITE sip:b SIP/2.0\r\nc: application/sdp\r\n\r\n", body].concat();
     let long = |size: usize| {
         let mut request = invite(b"a=b\n");
         request.resize(size, b'y');
