@@ -16,7 +16,7 @@ pub record Agree (M N : Machine) : Type 0 where
   pub meets : (p b : ℕ) → b < 256 → M .meets p b ≡ N .meets p b
   pub null : (a e : Bool) → M .null a e ≡ N .null a e
 
-agree-back : {M N : Machine} → Agree M N → Agree N M
+pub agree-back : {M N : Machine} → Agree M N → Agree N M
 agree-back g = record {
   first = λ a p. sym (g .first a p);
   last = λ e p. sym (g .last e p);
@@ -35,7 +35,7 @@ module _ {M N : Machine} (g : Agree M N) where
   starts-agree {a} (starts-none z) h = starts-none (subst T (g .null a _) z)
   starts-agree {a} (starts-live {p = p} f v) h = starts-live (subst T (g .first a p) f) (live-agree v h)
 
-bytes-drop : (l : List ℕ) (j : ℕ) → Bytes l → Bytes (drop j l)
+pub bytes-drop : (l : List ℕ) (j : ℕ) → Bytes l → Bytes (drop j l)
 bytes-drop l j h i = subst (λ (n : ℕ). n < 256) (sym (getD-drop j l i 0)) (h (j + i))
 
 pub starts-at-agree : {M N : Machine} → Agree M N → (s : List ℕ) → Bytes s → (j : ℕ) → StartsAt M s j ↔ StartsAt N s j

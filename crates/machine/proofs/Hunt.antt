@@ -55,7 +55,7 @@ module _ (set text : List ℕ) (from : ℕ) where
 -- ---- whether the first byte shuts a text
 
 pub start-below : (h : Shape) (before : List ℕ) → Closed h before → Below 60 (h .start)
-start-below h before c = below-wider (h .size) 60 (h .start) (c .few) (c .starts)
+start-below h before c = below-wider (h .size) 60 (h .start) (c .few) (c .starts true)
 
 pub not-shut : (h : Shape) (sets : List (List ℕ)) (b : ℕ) → false ≡ true → Shut h sets b
 not-shut h sets b e = absurd (true≢false (sym e))
@@ -300,7 +300,7 @@ module _ (h : Shape) (sets : List (List ℕ)) (before : List ℕ) where
           subst⁻¹ (λ (l : List ℕ). Starts M true l) here
           (starts-live first
           (candidate-live h sets before (getD text 0 0) (s .scan .live) (s .next) stop (drop 1 text) (s .scan .bits) stop-is p
-          (subst (λ (n : ℕ). T (bit n p)) candidates-are (right (bit (h .start) p) (bit candidates p) c)) (has-met (h .size) sets p (getD text 0 0) (bit-inside (h .size) (h .start) p (s .scan .closed .starts) first) m)))
+          (subst (λ (n : ℕ). T (bit n p)) candidates-are (right (bit (h .start) p) (bit candidates p) c)) (has-met (h .size) sets p (getD text 0 0) (bit-inside (h .size) (h .start) p (s .scan .closed .starts true) first) m)))
 
       not-first : r ≡ false → Starts M true (getD text 0 0 ∷ drop 1 text) → ⊥
       not-first e (starts-none u) = not-T-of (no-null (λ z. let l : 0 < length text = s .inside in absurd (omega arith)) (s .bare) true 0 refl (s .inside)) u

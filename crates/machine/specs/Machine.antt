@@ -82,11 +82,10 @@ machine-of h sets before = record {
   null = null-at h;
 }
 
--- The machine has at most 60 positions, and the masks whose bits code looks up a set for name no others: `start`, `ends`, `stops`, and
--- what may stand before a position. (`inner` is only compared with what is live.)
+-- The machine has at most 60 positions, and its masks name no others.
 pub record Closed (h : Shape) (before : List ℕ) : Type 0 where
   pub few : h .size ≤ 60
-  pub starts : Below (h .size) (h .start)
+  pub starts : (a : Bool) → Below (h .size) (first-mask h a)
   pub lasts : (e : Bool) → Below (h .size) (last-mask h e)
   pub befores : (q : ℕ) → q < h .size → Below (h .size) (getD before q 0)
 

@@ -42,7 +42,7 @@ fn has(sets: &[[u64; 4]; 60], p: usize, b: u8) -> bool
 }
 
 // Of the candidates, the positions that meet the byte b. Only the candidates are looked at.
-fn step(sets: &[[u64; 4]; 60], before: &[u64; 60], candidates: u64, b: u8) -> Front
+pub fn step(sets: &[[u64; 4]; 60], before: &[u64; 60], candidates: u64, b: u8) -> Front
     requires { ⌜ Below 60 candidates ⌝ }
     ensures { λ r. ⌜ Stepped (now (sets .entry)) (now (before .entry)) candidates b 0 (r .live) (r .next) ⌝ }
 {
@@ -76,7 +76,7 @@ fn is_met(sets: &[[u64; 4]; 60], candidates: u64, b: u8) -> bool
     false
 }
 
-fn last_of(h: Shape, end: bool) -> u64
+pub fn last_of(h: Shape, end: bool) -> u64
     ensures { λ r. ⌜ r ≡ last-mask h end ⌝ }
 {
     if end {
@@ -85,7 +85,7 @@ fn last_of(h: Shape, end: bool) -> u64
     h.stops
 }
 
-fn first_of(h: Shape, start: bool) -> u64
+pub fn first_of(h: Shape, start: bool) -> u64
     ensures { λ r. ⌜ r ≡ first-mask h start ⌝ }
 {
     if start {

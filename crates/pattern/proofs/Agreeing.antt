@@ -2,7 +2,7 @@
 use mathlib.Core.Path.{_≡_, refl, sym, ap, _∙_, subst, subst⁻¹}
 use mathlib.Core.Bool.{Bool, true, false, not, _&&_, _||_, and-true, and-false, and-comm, and-assoc, or-true, or-false}
 use mathlib.Core.List.{List, [], _∷_, _++_}
-use Prim.Native.Nat.{ℕ, zero, suc, _+_, _*_, _/_, _%_, _<_, _≤_}
+use Prim.Native.Nat.{ℕ, zero, suc, _+_, _*_, _/_, _%_, _^_, _<_, _≤_}
 use native.Mathlib.Omega.{arith}
 use lib.Dec.{ltb}
 use lib.ListN.{length, getD, List·getD-append}
@@ -59,11 +59,17 @@ module _ (es : List Elem) (old-before : List ℕ) where
   pub pattern-closed : (left right : Bool) → length es ≤ 60 → Closed (shape-by (marks no-marks es) left right) lent
   pattern-closed left right few = record {
     few = subst⁻¹ (λ (n : ℕ). n ≤ 60) (size-is es) few;
-    starts = λ k past. leads-bit es k ∙ leads-past es k (behind k past);
+    starts = λ a k past. first-below left a k (leads-bit es k ∙ leads-past es k (behind k past));
     lasts = λ e k past. last-is left right es right e k ∙ ap (λ (t : Bool). t && (not right || e)) (ends-past es k (behind k past));
     befores = λ q l k past. before-is k q (subst (λ (n : ℕ). q < n) (size-is es) l) ∙ precedes-past es k q (behind k past);
   }
     where
+      first-below : (left a : Bool) (k : ℕ) → bit (marks no-marks es .lead % 2 ^ marks no-marks es .at) k ≡ false
+          → bit (first-mask (shape-by (marks no-marks es) left right) a) k ≡ false
+      first-below left true k e = e
+      first-below true false k e = bit-zero k
+      first-below false false k e = e
+
       behind : (k : ℕ) → marks no-marks es .at ≤ k → length es ≤ k
       behind k past = subst (λ (n : ℕ). n ≤ k) (size-is es) past
 

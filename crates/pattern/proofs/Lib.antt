@@ -9,3 +9,4 @@ pub mod Loading
 pub mod Meaning
 pub mod Positions
 pub mod Readying
+pub mod Taken

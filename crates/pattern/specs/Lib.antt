@@ -1,4 +1,5 @@
 pub mod Answers
 pub mod Examples
 pub mod Matching
+pub mod Parts
 pub mod Prepared

@@ -11,11 +11,13 @@ use Rattle.octets.specs.Bits.{bit}
 use Rattle.octets.specs.Lists.{pick}
 use Rattle.machine.specs.Machine.{StartsAt, Bytes, machine-of, Closed}
 use Rattle.machine.specs.declared.Shape.{Shape}
+use Rattle.part.specs.Part.{PartAt}
 use Rattle.basic.specs.Pattern.{Atom, Elem, once, star}
 use Rattle.basic.specs.Reading.{atom, is-pattern}
 use Rattle.basic.specs.Places.{map-got, PieceAt}
 use Rattle.basic.specs.Sets.{words}
 use Rattle.pattern.specs.Answers.{meet-as, begins-at}
+use Rattle.pattern.specs.Parts.{FitsText}
 use Rattle.pattern.specs.declared.edition1.Marks.{Marks}
 
 -- ---- by what it does
@@ -25,13 +27,15 @@ abbrev pub takes-part : Shape → Bool
 takes-part h = not (eqb (h .size) 0) || h .whole
 
 -- A machine that is ready for a pattern: it stands in places for 60 positions, its masks name its own, it takes part exactly if the string is
--- a pattern, and it begins a part at a place of a text exactly if the pattern does. How it came about is not said.
+-- a pattern, it begins a part at a place of a text exactly if the pattern does, and the parts that it takes there are those that fit, by
+-- their lengths. How it came about is not said.
 pub record Ready (fold : Bool) (p : List ℕ) (h : Shape) (sets : List (List ℕ)) (before : List ℕ) : Type 0 where
   pub closed : Closed h before
   pub room-sets : length sets ≡ 60
   pub room-before : length before ≡ 60
   pub told : takes-part h ≡ is-pattern p
   pub begins : (t : List ℕ) → Bytes t → (j : ℕ) → j ≤ length t → StartsAt (machine-of h sets before) t j ↔ T (begins-at fold p t j)
+  pub takes : (t : List ℕ) → Bytes t → (j n : ℕ) → j ≤ length t → PartAt (machine-of h sets before) t j n ↔ FitsText fold p t j n
 
 -- ---- as edition 1 makes it: a position for each element
 
