@@ -1,0 +1,4 @@
+pub mod Answering
+pub mod Far
+pub mod Meeting
+pub mod Placing
