@@ -56,6 +56,67 @@ static void print_server(uint32_t criterion) {
     if (present) printf(" (%.*s)", (int)length, (const char *)image + start);
 }
 
+/* ---- which text set off a row */
+
+/* The line after this one; of the head the lines that continue it belong to it. */
+static size_t next_line(const struct request *r, size_t at) {
+    while (at < r->length && r->at[at] != '\n') at++;
+    return at < r->length ? at + 1 : at;
+}
+
+static int is_blank(uint8_t b) { return b == ' ' || b == '\t'; }
+
+/* Where the value of a field of the head begins. The library has read the request, so it has that field. */
+static size_t field_value(const struct request *r, uint32_t number) {
+    size_t at = next_line(r, 0);
+    for (;; at = next_line(r, at)) {
+        if (at >= r->length) stop("no such field");
+        if (is_blank(r->at[at])) continue;
+        if (number-- == 0) break;
+    }
+    while (r->at[at] != ':') at++;
+    for (at++; is_blank(r->at[at]); at++) {}
+    return at;
+}
+
+/* Where the value of a session line begins: "a line is a field if its second byte is `=`". */
+static size_t line_value(const struct request *r, uint32_t number) {
+    size_t at = 0;
+    while (at + 4 <= r->length && memcmp(r->at + at, "\r\n\r\n", 4)) at++;
+    for (at += 4;; at = next_line(r, at)) {
+        if (at + 2 > r->length) stop("no such line");
+        if (r->at[at + 1] == '=' && number-- == 0) return at + 2;
+    }
+}
+
+/* The place is one in the value as read. In the requests of this directory a field has one value, written with no fold and no run of
+ * blanks, so the same bytes stand in the request: of others the numbers alone would tell. */
+static void print_part(const struct request *r, int of_line, uint32_t number, uint32_t start, uint32_t length) {
+    size_t at = of_line ? line_value(r, number) : field_value(r, number);
+    printf("\"%.*s\"", (int)length, (const char *)r->at + at + start);
+}
+
+/* "Which text set off a trigger": the first field or line and value that made a row match, and the part of it. */
+static void show(const struct request *r, uint32_t row, int of_line) {
+    uint32_t place, found, number, value, start, length;
+    if (ifc_show(image, image_len, r->at, r->length, row, &place, &found, &number, &value, &start, &length)) stop("no such row");
+    printf("    row %u: ", row);
+    if (found) {
+        printf("%s %u, value %u, start %u, length %u: ", of_line ? "line" : "field", number, value, start, length);
+        print_part(r, of_line, number, start, length);
+    } else {
+        printf("none");
+    }
+    printf("\n");
+}
+
+static void show_recorder(const struct request *r) {
+    show(r, RECORDER_SOUND, 1);
+    show(r, RECORDER_FROM, 0);
+}
+
+/* ---- walks */
+
 static void advance(ifc_session *session, const char *name, ifc_answer *answer) {
     const struct request *r = request(name);
     uint32_t refusal = ifc_session_advance(session, image, image_len, r->at, r->length, answer);
@@ -97,6 +158,7 @@ static void call(const char *title, const char *first, const char *next, uint32_
         advance(&session, name, &answer);
         if (answer.outcome != IFC_FORWARD) break;
         int recorder = answer.criterion == RECORDER;
+        if (recorder) show_recorder(request(name));
         report(&session, recorder ? of_recorder : IFC_RETURNED);
         asked |= recorder;
     }
@@ -110,6 +172,7 @@ static void sound(const char *title, const char *name) {
     printf("%s\n", title);
     if (ifc_session_open(&session, IFC_ORIGINATING)) stop("no session");
     advance(&session, name, &answer);
+    show(request(name), 0, 1);
     printf("In plain words: it has %s session line m=audio.\n\n", answer.outcome == IFC_FORWARD ? "a" : "no");
 }
 
@@ -129,6 +192,7 @@ static void registration(const char *title, uint32_t type) {
         printf("  criterion %u, ", list[i]);
         print_server(list[i]);
         printf("\n");
+        if (list[i] == RECORDER) show_recorder(r);
     }
     printf("\n");
 }
@@ -137,7 +201,9 @@ int main(int argc, char **argv) {
     if (argc != 2) stop("desk DIRECTORY");
     directory = argv[1];
     printf("examined: the criteria looked at\n"
-           "trials:   the tests of a row on a part of the request; every row of these criteria once, as document 01 counts\n\n");
+           "trials:   the tests of a row on a part of the request; every row of these criteria once, as document 01 counts\n"
+           "row:      which text made a row of the recorder match, counted from 0: the field of the head or the session line, its\n"
+           "          value, and the part of the value, in bytes\n\n");
     desk_profile(HANDLING_TERMINATED);
     call("A call to another house", "invite.sip", "invite-recorded.sip", IFC_RETURNED);
     call("The same call; the recorder cannot be reached, its default handling is terminated", "invite.sip", "invite.sip",

@@ -16,6 +16,9 @@
 
 enum { BILLING, RECORDER, VOICEMAIL }; /* numbers of the criteria, in the order of the image */
 
+/* Numbers of rows in the image's table: the two rows of the recorder that ask for a text, and how many there are in all. */
+enum { RECORDER_SOUND = 3, RECORDER_FROM = 6, DESK_ROWS = 10 };
+
 /* sip: or sips:, a desk's number, the house; scheme and house in any case. It is open at both ends: with or without <> and port, and
  * also in a display name or before a longer house, for the recorder shall rather take one call too many than one too few. */
 #define DESK_ADDRESS "[Ss][Ii][Pp][Ss]*:desk[0-9]*@[Dd][Ee][Ss][Kk]\\.[Ee][Xx][Aa][Mm][Pp][Ll][Ee]"

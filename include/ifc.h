@@ -14,12 +14,13 @@
  *                 any case. Otherwise such a row finds none, costs no trial, and fits if it is negated. The body is never refused.
  * Session         five numbers that the caller keeps between calls: see ifc_session. Nothing needs closing.
  * Criterion       named by its number in the image, counted from 0, not by its priority.
+ * Row             named by its number in the image's table of trigger rows, counted from 0 (ifc_show, since change request 2).
  *
  * What every call keeps to
  *
  * - It returns a refusal number, 0 for none. If several would apply, it is the first in this order: 10, 1 to 6 (the first fault
- *   of the image in reading order), 7, 11, 8, 9, 12; for a lookup 13 after the image. A refusal names no server and no route: the
- *   host must not let the SIP call go on. The session may be tried again with what was wrong mended.
+ *   of the image in reading order), 7, 11, 8, 9, 12; for a lookup 13 after the image, for ifc_show 13 after 7. A refusal names no
+ *   server and no route: the host must not let the SIP call go on. The session may be tried again with what was wrong mended.
  * - A lent number (uint32_t *) is written on every return. On a refusal it is 0, with two exceptions: `place`, where an image
  *   fault (1 to 6) stands, in bytes from the image's start (it may be 0: the number returned tells whether there is one); and a
  *   session's numbers, which hold what they held. Only ifc_open gives them new values on a refusal.
@@ -63,7 +64,7 @@ enum {
     IFC_WRONG_MOMENT = 10,        /* call at the wrong moment; numbers that no session can have */
     IFC_WRONG_METHOD = 11,        /* advance on REGISTER, listing on another method */
     IFC_TOO_FEW_PLACES = 12,      /* more fitting criteria than places */
-    IFC_NO_SUCH_CRITERION = 13    /* no such criterion */
+    IFC_NO_SUCH_CRITERION = 13    /* no such criterion; for ifc_show: no such row */
 };
 
 /* Session cases, as 3GPP's Cx interface numbers them. */
@@ -146,6 +147,28 @@ uint32_t ifc_server(const uint8_t *image, size_t image_len, uint32_t criterion, 
  * absent). Present information may be empty. The image as for ifc_server. Refused with 1 to 6 or 13. */
 uint32_t ifc_information(const uint8_t *image, size_t image_len, uint32_t criterion, uint32_t *place, uint32_t *present,
     uint32_t *start, uint32_t *length);
+
+/* Which text made a row of a trigger match, for the staff who are asked why a server got a call or did not (since change request 2).
+ * `row` is a row's number in the image's table, whether a criterion uses it or not. Session case, registration type, profile part and
+ * the other rows play no part, and a REGISTER may be asked too.
+ *
+ * *found is 1 for a SIPHeader or SessionDescription row that matched "before negation": a negated row that is found is one that does
+ * not fit. Then the four numbers say where, each counted from 0:
+ * *field   which field of the head, all of them counted, whatever their names; for a SessionDescription row which session line, those
+ *          lines alone counted that are fields (second byte `=`). It is the first whose name or type matches and of which, if the row
+ *          has Content, some value matches;
+ * *value   which of its values, the first that matches. The field's value is cut at commas as it is for matching, and empty pieces
+ *          count. A session line has one value;
+ * *start, *length   the part of that value that the Content pattern fits: the smallest start, and of those the longest length, in
+ *          bytes. They are bytes of the value as read: the piece between its commas, white space at its ends gone and each run of it
+ *          inside, folds too, one SP; of a session line all after the `=`. The length may be 0: `a*` on `baa` fits at 0, length 0.
+ * Without Content value, start and length are 0.
+ *
+ * *found is 0, and so are the four, if nothing matched or the row is of another kind (RequestURI, Method, SessionCase).
+ * As for the other calls, two readable requests that agree in what the image's rows ask for get the same answer.
+ * Refused with 1 to 6, 7, or 13 (no such row). */
+uint32_t ifc_show(const uint8_t *image, size_t image_len, const uint8_t *request, size_t request_len, uint32_t row,
+    uint32_t *place, uint32_t *found, uint32_t *field, uint32_t *value, uint32_t *start, uint32_t *length);
 
 /* ---- for convenience: the same calls over two structs. They only pass addresses. */
 

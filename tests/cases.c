@@ -7,7 +7,7 @@
 #include "../include/ifc.h"
 
 enum { MOST = 16 };
-enum { CHECK, OPEN, ADVANCE, REPORT, LIST, SERVER, INFORMATION };
+enum { CHECK, OPEN, ADVANCE, REPORT, LIST, SERVER, INFORMATION, SHOW };
 
 static void put_bytes(FILE *out, const struct bytes *from) {
     put(out, from->length);
@@ -57,7 +57,10 @@ static uint32_t call(const struct one *c, const struct lent *at, uint32_t *n) {
             &n[5]);
     case REPORT: return ifc_report(n[0], &n[1], n[2], n[3], n[4], n[5]);
     case SERVER: return ifc_server(image, length, n[0], &n[1], &n[2], &n[3]);
-    default: return ifc_information(image, length, n[0], &n[1], &n[2], &n[3], &n[4]);
+    case INFORMATION: return ifc_information(image, length, n[0], &n[1], &n[2], &n[3], &n[4]);
+    case SHOW:
+        return ifc_show(image, length, at->request, c->request.length, n[0], &n[1], &n[2], &n[3], &n[4], &n[5], &n[6]);
+    default: stop("a call that there is not"); return 0;
     }
 }
 

@@ -101,7 +101,7 @@ static void draw_list(void) {
 
 /* ---- calls */
 
-static uint32_t refusals[14], forwards, routes, listed;
+static uint32_t refusals[14], forwards, routes, listed, shown;
 static ifc_session session;
 
 static void seen(uint32_t refusal, const char *may) {
@@ -219,6 +219,25 @@ static void lookup(void) {
     if (!present) must(start == 0 && length == 0, "a part where there is none");
 }
 
+/* A row of the sample's table, mostly, and of an image that was drawn at random, seldom. */
+static void show(void) {
+    uint32_t row = draw_number(16), place = 7, found = 7, field = 7, value = 7, start = 7, length = 7;
+    uint32_t refusal = ifc_show(image.at, image.length, request.at, request.length, row, &place, &found, &field, &value, &start, &length);
+    seen(refusal, "yyyyyyyy.....y");
+    place_holds(refusal, place);
+    must(untouched(&request), "the request was changed");
+    must(found <= (refusal ? 0u : 1u), "something is shown though refused");
+    must(row < 2048 || refusal, "a row that no image has");
+    if (!found) {
+        must(!field && !value && !start && !length, "a place where nothing is shown");
+        return;
+    }
+    must(request.length <= 65535, "a request that is too long");
+    must(field < request.length && value < request.length, "a field or value that the request is too short for");
+    must((size_t)start + length <= request.length, "a part that the request is too short for");
+    shown++;
+}
+
 int main(int argc, char **argv) {
     uint32_t count = argc > 2 ? (uint32_t)strtoul(argv[2], NULL, 10) : 20000;
     if (argc > 1) seed = strtoul(argv[1], NULL, 10) * 2 + 1;
@@ -233,14 +252,15 @@ int main(int argc, char **argv) {
         case 0: check(); break;
         case 1: open_one(); break;
         case 2: wild_session(); break;
-        case 3: case 4: case 5: lookup(); break;
+        case 3: case 4: lookup(); break;
+        case 5: show(); break;
         case 6: case 7: case 8: draw_list(), list_all(); break;
         case 9: case 10: case 11: report(); break;
         default: advance();
         }
     }
     for (int i = 0; i < 14; i++) must(refusals[i] > 0, "some refusal was never seen: more calls are needed");
-    must(forwards > 0 && routes > 0 && listed > 0, "some answer was never seen: more calls are needed");
-    printf("garbage: ok (%u calls, %u forwards, %u routes, %u listed)\n", count, forwards, routes, listed);
+    must(forwards > 0 && routes > 0 && listed > 0 && shown > 0, "some answer was never seen: more calls are needed");
+    printf("garbage: ok (%u calls, %u forwards, %u routes, %u listed, %u shown)\n", count, forwards, routes, listed, shown);
     return 0;
 }

@@ -16,6 +16,7 @@ number (*report)(number, lent, number, number, number, number) = ifc_report;
 number (*list)(bytes, size_t, bytes, size_t, number, number, uint8_t *, size_t, lent, lent, lent, lent) = ifc_list;
 number (*server)(bytes, size_t, number, lent, lent, lent) = ifc_server;
 number (*information)(bytes, size_t, number, lent, lent, lent, lent) = ifc_information;
+number (*show)(bytes, size_t, bytes, size_t, number, lent, lent, lent, lent, lent, lent) = ifc_show;
 
 number (*session_open)(ifc_session *, number) = ifc_session_open;
 number (*session_advance)(ifc_session *, bytes, size_t, bytes, size_t, ifc_answer *) = ifc_session_advance;

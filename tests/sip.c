@@ -2,12 +2,12 @@
  * back. What was asked and answered on the way goes to CASES and ANSWERS, for `second compare CASES ANSWERS`.
  *
  * Each request is walked originating (case 0) and terminating (case 1), and listed as a first, a repeated and a last
- * registration. Where all calls of a request are refused with one number, that is all that is printed. */
+ * registration; every row of the profile is shown, and one number beyond. Where all calls of a request are refused with one number, that is all that is printed. */
 #include "lent.h"
 #include "../examples/desk.h"
 #include "../include/ifc.h"
 
-enum { ADVANCE = 2, REPORT = 3, LIST = 4, UNWRITTEN = 0xDEADBE, PLACE = 192 };
+enum { ADVANCE = 2, REPORT = 3, LIST = 4, SHOW = 7, UNWRITTEN = 0xDEADBE, PLACE = 192 };
 
 static const char *const names[] = {[BILLING] = "billing", [RECORDER] = "recorder", [VOICEMAIL] = "voicemail"};
 static struct bytes image, request;
@@ -68,6 +68,13 @@ static uint32_t list(const char *label, uint32_t *n, uint8_t *places, uint32_t l
     return answer(refusal, places, length, n, 6);
 }
 
+static void show(const char *label, uint32_t row) {
+    uint32_t n[7] = {row};
+    ask(SHOW, label, 1, NULL, 0, n, 1, 7);
+    uint32_t refusal = ifc_show(image.at, image.length, request.at, request.length, n[0], &n[1], &n[2], &n[3], &n[4], &n[5], &n[6]);
+    answer(refusal, NULL, 0, n, 7);
+}
+
 /* ---- one request */
 
 struct told {
@@ -118,6 +125,7 @@ static void take(const char *name) {
     int same = 1;
     for (uint32_t k = 0; k < 2; k++) walk(name, k, &t[k]);
     for (uint32_t type = 0; type < 3; type++) listing(name, type, &t[2 + type]);
+    for (uint32_t row = 0; row <= DESK_ROWS; row++) show(name, row);
     for (int i = 1; i < 5; i++) same &= t[0].refusal && t[i].refusal == t[0].refusal;
     if (same) printf("%s: refused with %u\n", name, t[0].refusal);
     /* of a REGISTER the listings are told, of any other the walks; the other calls must be refused with 11 */

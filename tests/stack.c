@@ -113,7 +113,7 @@ static void full_image(void) {
 
 static ifc_session session;
 static ifc_answer answer;
-static uint32_t n[6];
+static uint32_t n[6], row;
 static uint8_t list[64];
 
 static void check(void) { refusal = ifc_check(image, image_len, &n[0]); }
@@ -122,6 +122,7 @@ static void advance(void) { refusal = ifc_session_advance(&session, image, image
 static void report(void) { refusal = ifc_session_report(&session, IFC_RETURNED); }
 static void server(void) { refusal = ifc_server(image, image_len, 63, &n[0], &n[1], &n[2]); }
 static void information(void) { refusal = ifc_information(image, image_len, 63, &n[0], &n[1], &n[2], &n[3]); }
+static void show(void) { refusal = ifc_show(image, image_len, request, request_len, row, &n[0], &n[1], &n[2], &n[3], &n[4], &n[5]); }
 static void list_all(void) {
     refusal = ifc_list(image, image_len, request, request_len, 1, 0, list, sizeof list, &n[0], &n[1], &n[2], &n[3]);
 }
@@ -168,8 +169,8 @@ static void tell(const char *name, void (*call)(void), uint32_t right) {
         exit(1);
     }
     if (bytes > most) most = bytes;
-    if (bytes) printf("  %-34s %7lu\n", name, (unsigned long)bytes);
-    else printf("  %-34s under %d\n", name, BESIDE);
+    if (bytes) printf("  %-40s %7lu\n", name, (unsigned long)bytes);
+    else printf("  %-40s under %d\n", name, BESIDE);
 }
 
 int main(void) {
@@ -201,6 +202,10 @@ int main(void) {
         method = "REGISTER", worst[i].make();
         snprintf(name, sizeof name, "ifc_list, %s", worst[i].name);
         tell(name, list_all, 0);
+        for (row = 0; row < 2; row++) {
+            snprintf(name, sizeof name, "ifc_show, row %u, %s", row, worst[i].name);
+            tell(name, show, 0);
+        }
     }
     if (most > DOCUMENTED) {
         printf("stack: %lu bytes, more than the documented %d\n", (unsigned long)most, DOCUMENTED);

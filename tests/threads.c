@@ -17,6 +17,7 @@ struct walk {
     uint32_t refusals[4][MOST_STEPS];
     uint32_t listed[4][3][5];
     uint8_t lists[4][3][16];
+    uint32_t shown[16][7];
 };
 
 static uint8_t image[IMAGE_MOST];
@@ -24,7 +25,7 @@ static size_t image_len;
 static uint8_t requests[SAMPLE_REQUESTS][SAMPLE_ROOM];
 static size_t lengths[SAMPLE_REQUESTS];
 static struct walk alone[SAMPLE_REQUESTS];
-static uint32_t forwards, listings;
+static uint32_t forwards, listings, shows;
 
 static void walk(uint32_t variant, struct walk *w) {
     const uint8_t *request = requests[variant];
@@ -45,6 +46,10 @@ static void walk(uint32_t variant, struct walk *w) {
             memset(list, 200, 16);
             n[0] = ifc_list(image, image_len, request, length, c, type, list, 16, &n[1], &n[2], &n[3], &n[4]);
         }
+    }
+    for (uint32_t row = 0; row < 16; row++) {
+        uint32_t *n = w->shown[row];
+        n[0] = ifc_show(image, image_len, request, length, row, &n[1], &n[2], &n[3], &n[4], &n[5], &n[6]);
     }
 }
 
@@ -72,9 +77,10 @@ int main(void) {
             for (int k = 0; k < MOST_STEPS; k++) forwards += alone[i].answers[c][k].outcome == IFC_FORWARD;
             for (int type = 0; type < 3; type++) listings += alone[i].listed[c][type][2];
         }
+        for (int row = 0; row < 16; row++) shows += alone[i].shown[row][2];
     }
-    if (forwards < 1000 || listings < 1000) {
-        printf("threads: the sample leads nowhere (%u forwards, %u listed)\n", forwards, listings);
+    if (forwards < 1000 || listings < 1000 || shows < 1000) {
+        printf("threads: the sample leads nowhere (%u forwards, %u listed, %u shown)\n", forwards, listings, shows);
         return 1;
     }
     for (uintptr_t i = 0; i < THREADS; i++)
@@ -91,7 +97,7 @@ int main(void) {
         printf("threads: %lu walks differ from those of one thread\n", (unsigned long)wrong);
         return 1;
     }
-    printf("threads: ok (%d at once, %d walks each, %u forwards, %u listed)\n", THREADS, ROUNDS * SAMPLE_REQUESTS, forwards,
-        listings);
+    printf("threads: ok (%d at once, %d walks each, %u forwards, %u listed, %u shown)\n", THREADS, ROUNDS * SAMPLE_REQUESTS, forwards,
+        listings, shows);
     return 0;
 }

@@ -1,11 +1,12 @@
-//! The seven calls. Each answers every number it lends, refusals too.
+//! The eight calls. Each answers every number it lends, refusals too.
 
 use crate::image;
-use crate::profile::{Fault, Profile};
+use crate::profile::{Fault, Profile, Row, Test};
 use crate::request::{self, Request};
 use crate::row::Subject;
 use crate::sequence::{above, all_fitting, first_fitting, Counts};
 use crate::session::{possible, Session, FINISHED, READY, WAITING};
+use crate::shown::{shown, Shown};
 use crate::twist::{twisted, Twist};
 use std::ops::Range;
 
@@ -193,4 +194,43 @@ fn criterion(image: &[u8], number: u32) -> Result<Parts, Fault> {
     };
     let found = profile.criteria.get(number).ok_or(Fault::plain(13))?;
     Ok((found.server.clone(), found.information.clone()))
+}
+
+/// "Refusals: 13 for a row number outside the table, after the image and request checks."
+pub fn show(image: &[u8], text: &[u8], number: u32) -> Result<Option<Shown>, Fault> {
+    if twisted(Twist::ShownRowJudgedFirst) {
+        row(&image::read(image)?, number)?;
+    }
+    let (profile, request) =
+        both(image, text).map_err(|fault| match twisted(Twist::ShownFaultPlaceZero) {
+            true => Fault::plain(fault.number),
+            false => fault,
+        })?;
+    if twisted(Twist::ShownRegisterRefused) && request.is_register() {
+        return Err(Fault::plain(11));
+    }
+    let Some(row) = row(&profile, number)? else { return Ok(None) };
+    let text_row = matches!(row.test, Test::SipHeader { .. } | Test::SessionDescription { .. });
+    if twisted(Twist::ShownOtherKindsRefused) && !text_row {
+        return Err(Fault::plain(13));
+    }
+    Ok(shown(row, &request))
+}
+
+/// The row of this number "in the table", whether a criterion uses it or not.
+fn row(profile: &Profile, number: u32) -> Result<Option<&Row>, Fault> {
+    let number = match () {
+        _ if twisted(Twist::ShownRowAsByte) => number & 255,
+        _ if twisted(Twist::ShownRowAs16Bits) => number & 65_535,
+        _ => number,
+    } as usize;
+    let used = profile.criteria.iter().any(|criterion| criterion.rows.contains(&number));
+    match profile.rows.get(number) {
+        Some(_) if twisted(Twist::ShownUnusedRefused) && !used => Err(Fault::plain(13)),
+        Some(_) if twisted(Twist::ShownUnusedNone) && !used => Ok(None),
+        Some(row) => Ok(Some(row)),
+        None if twisted(Twist::ShownRowAtEndTaken) && number == profile.rows.len() => Ok(None),
+        None if twisted(Twist::ShownOutsideNone) => Ok(None),
+        None => Err(Fault::plain(13)),
+    }
 }

@@ -1,8 +1,10 @@
 //! A case is one call with all its inputs; an answer is everything the call hands back.
 
 use crate::calls;
+use crate::place::Place;
 use crate::profile::Fault;
 use crate::session::{self, Session};
+use crate::shown::Shown;
 use crate::twist::{twisted, Twist};
 
 #[derive(Clone, Copy, PartialEq, Eq, Debug)]
@@ -14,10 +16,19 @@ pub enum Call {
     List,
     Server,
     Information,
+    Show,
 }
 
-pub const CALLS: [Call; 7] =
-    [Call::Check, Call::Open, Call::Advance, Call::Report, Call::List, Call::Server, Call::Information];
+pub const CALLS: [Call; 8] = [
+    Call::Check,
+    Call::Open,
+    Call::Advance,
+    Call::Report,
+    Call::List,
+    Call::Server,
+    Call::Information,
+    Call::Show,
+];
 
 impl Call {
     /// The call's `uint32_t` parameters in the order of the C prototype; `*` marks a lent one.
@@ -42,6 +53,7 @@ impl Call {
             Call::List => &["session_case", "registration_type", "*place", "*count", "*examined", "*trials"],
             Call::Server => &["criterion", "*place", "*start", "*length"],
             Call::Information => &["criterion", "*place", "*present", "*start", "*length"],
+            Call::Show => &["row", "*place", "*found", "*field", "*value", "*start", "*length"],
         }
     }
 }
@@ -78,6 +90,7 @@ pub fn answer(case: &Case) -> Answer {
         Call::List => listing(case, &mut list, &mut numbers),
         Call::Server => server(case, &mut numbers),
         Call::Information => information(case, &mut numbers),
+        Call::Show => show(case, &mut numbers),
     };
     Answer { number, list, numbers }
 }
@@ -200,6 +213,35 @@ fn information(case: &Case, numbers: &mut [u32]) -> u32 {
     match calls::information(&case.image, numbers[0]) {
         Ok(Some(part)) => {
             numbers[2..].copy_from_slice(&[1, part.start as u32, part.len() as u32]);
+            0
+        }
+        Ok(None) => 0,
+        Err(fault) => {
+            numbers[1] = fault.place as u32;
+            fault.number
+        }
+    }
+}
+
+fn show(case: &Case, numbers: &mut [u32]) -> u32 {
+    let shown = calls::show(&case.image, &case.request, numbers[0]);
+    let kept = match shown {
+        Ok(None) => twisted(Twist::NothingShownWritesNothing),
+        Ok(Some(_)) => false,
+        Err(_) => twisted(Twist::RefusedShowWritesNothing),
+    };
+    if !kept {
+        numbers[1..].fill(0);
+    }
+    match shown {
+        Ok(Some(Shown { field, value, place: Place { start, length } })) => {
+            let length = if twisted(Twist::ShownEndForLength) { start + length } else { length };
+            let of = [(field, Twist::ShownFieldAsByte), (value, Twist::ShownValueAsByte)];
+            let bytes = [(start, Twist::ShownStartAsByte), (length, Twist::ShownLengthAsByte)];
+            numbers[2] = 1;
+            for (place, (number, twist)) in of.into_iter().chain(bytes).enumerate() {
+                numbers[3 + place] = if twisted(twist) { number & 255 } else { number } as u32;
+            }
             0
         }
         Ok(None) => 0,

@@ -88,13 +88,13 @@ fn in_set(row: &Row, subject: &Subject) -> bool {
     row.registration_set >> bit & 1 == 1
 }
 
-fn name_matches(pattern: &Pattern, field: &Field) -> bool {
+pub fn name_matches(pattern: &Pattern, field: &Field) -> bool {
     let letters = if twisted(Twist::NamesAsWritten) { Letters::AsWritten } else { Letters::EitherForm };
     let too = twisted(Twist::WrittenNameTriedToo) && matches(pattern, &field.written, letters);
     matches(pattern, &field.name, letters) || too
 }
 
-fn content_matches(content: &Pattern, value: &[u8]) -> bool {
+pub fn content_matches(content: &Pattern, value: &[u8]) -> bool {
     let letters = if twisted(Twist::ContentInEitherForm) { Letters::EitherForm } else { Letters::AsWritten };
     matches(content, value, letters)
 }
@@ -145,12 +145,16 @@ fn apart(name: &Pattern, content: Option<&Pattern>, fields: &[Field]) -> bool {
     fields.iter().any(|field| name_matches(name, field)) && content.is_none_or(any_value)
 }
 
-fn description(line: &Pattern, content: Option<&Pattern>, lines: &[Line]) -> Verdict {
+pub fn line_matches(line: &Pattern, field: &Line) -> bool {
     let letters = if twisted(Twist::LineInEitherForm) { Letters::EitherForm } else { Letters::AsWritten };
+    matches(line, &[field.kind], letters)
+}
+
+fn description(line: &Pattern, content: Option<&Pattern>, lines: &[Line]) -> Verdict {
     let mut verdict = Verdict { fits: false, trials: 0 };
     for field in lines {
         verdict.trials += 1;
-        if !matches(line, &[field.kind], letters) {
+        if !line_matches(line, field) {
             continue;
         }
         match content {

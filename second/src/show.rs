@@ -29,7 +29,7 @@ pub fn case(number: usize, case: &Case) -> String {
             Err(fault) => format!("  refused with {} at {}\n", fault.number, fault.place),
         };
     }
-    if matches!(case.call, Call::Advance | Call::List) {
+    if matches!(case.call, Call::Advance | Call::List | Call::Show) {
         out += &format!("request {}\n", text(&case.request));
     }
     if case.call == Call::List {

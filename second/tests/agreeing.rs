@@ -61,10 +61,15 @@ fn changed(random: &mut Random, text: &[u8], keeps: impl Fn(&[u8]) -> bool, keep
     [lines.concat(), b"\r\n".to_vec(), body].concat()
 }
 
-/// Both calls, the advance before and after a forward.
-fn answers(image: &[u8], request: &[u8]) -> (Advance, Advance, (u32, Vec<u8>, [u32; 4])) {
+type Answers = (Advance, Advance, (u32, Vec<u8>, [u32; 4]), Vec<(u32, [u32; 6])>);
+
+/// Every call that takes a request: the advance before and after a forward, a listing, and what each row shows ("demand 3 covers
+/// this answer too").
+fn answers(image: &[u8], request: &[u8]) -> Answers {
     let after = Session { forwarded: 1, last: 40, ..READY };
-    (advance(image, request, READY), advance(image, request, after), list(image, request, 0, 1, 64))
+    let rows = image::read(image).map_or(0, |profile| profile.rows.len() as u32);
+    let shown = (0..=rows).map(|row| show(image, request, row)).collect();
+    (advance(image, request, READY), advance(image, request, after), list(image, request, 0, 1, 64), shown)
 }
 
 fn drawn(random: &mut Random) -> (Vec<u8>, Vec<u8>, Option<Profile>) {

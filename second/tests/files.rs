@@ -73,7 +73,9 @@ fn commands() {
     let (cases, answers) = (path("cases"), path("answers"));
     let (status, made) = second(&["make", "9", "50"], b"");
     assert_eq!(status, Some(0));
-    assert_eq!(files::read_cases(&mut &made[..]).expect("a case file").len(), maker::fixed().len() + 50);
+    // 50 random ones, and a quarter as many of show.
+    let count = maker::fixed().len() + 50 + 12;
+    assert_eq!(files::read_cases(&mut &made[..]).expect("a case file").len(), count);
     std::fs::write(&cases, &made).expect("written");
     let (status, mut given) = second(&["answer"], &made);
     assert_eq!(status, Some(0));
@@ -85,7 +87,7 @@ fn commands() {
     let (status, said) = second(&["compare", &cases, &answers], b"");
     assert_eq!(status, Some(1));
     let said = String::from_utf8_lossy(&said).into_owned();
-    assert!(said.contains(&format!("case {}", maker::fixed().len() + 49)), "{said}");
+    assert!(said.contains(&format!("case {}", count - 1)), "{said}");
     assert_eq!(second(&["show", "0", &cases], b"").0, Some(0));
     std::fs::remove_dir_all(&folder).expect("removed");
 }

@@ -85,6 +85,24 @@ fn random_bodies_are_mostly_session_descriptions() {
     assert!(others.iter().all(|&count| count > 100), "{others:?}");
 }
 
+/// Random shows: several to an image, a third of them found, some beyond the first field, value and byte, and some REGISTERs.
+#[test]
+fn random_shows_find() {
+    let cases = maker::shows::random(15, 5_000);
+    assert!(cases.iter().all(|case| case.call == Call::Show));
+    let images: BTreeSet<&[u8]> = cases.iter().map(|case| case.image.as_slice()).collect();
+    assert!(cases.len() >= 3 * images.len(), "{} images", images.len());
+    let answers: Vec<Vec<u32>> = cases.iter().map(answer).map(|answer| answer.numbers).collect();
+    let found = answers.iter().filter(|numbers| numbers[2] == 1).count();
+    assert!(found * 3 >= cases.len(), "{found} of {}", cases.len());
+    for number in 3..7 {
+        let more = answers.iter().filter(|numbers| numbers[number] > 0).count();
+        assert!(more > 100, "number {number}: {more}");
+    }
+    let registers = cases.iter().zip(&answers).filter(|(case, _)| case.request.starts_with(b"REGISTER "));
+    assert!(registers.filter(|(_, numbers)| numbers[2] == 1).count() > 50);
+}
+
 /// Walks go further than one forward, and lists are longer than one.
 #[test]
 fn walks_and_lists_are_long() {
@@ -108,6 +126,7 @@ fn every_number_of_every_call() {
         (Call::List, [&image[..], &[7, 8, 9, 11, 12]].concat()),
         (Call::Server, [&image[..], &[13]].concat()),
         (Call::Information, [&image[..], &[13]].concat()),
+        (Call::Show, [&image[..], &[7, 13]].concat()),
     ];
     let expected: BTreeSet<(u32, u32)> = expected
         .iter()
@@ -124,7 +143,8 @@ fn few_of_every_kind() {
     };
     // As in kept.sh.
     let few = maker::few::few(1, 4_000, 40, 1_000);
-    assert_eq!(told(&few), told(&maker::fixed()));
+    let run: Vec<Case> = maker::fixed().into_iter().filter(|case| case.call != Call::Show).collect();
+    assert_eq!(told(&few), told(&run));
     let advances = few.iter().filter(|case| case.call == Call::Advance);
     let outcomes: Vec<u32> = advances.map(|case| answer(case).numbers[6]).collect();
     for outcome in [1, 2] {
@@ -143,7 +163,7 @@ fn few_of_every_kind() {
 /// The readings marked H.
 const MARKED: &[&str] = &[
     "P1", "P3", "P6", "P7", "P9", "I1", "I2", "I3", "I5", "I6", "I9", "R1", "R13", "F2", "F7", "S2", "S3",
-    "S5", "L5", "1.1", "5.2",
+    "S5", "L5", "1.1", "2.1", "2.2", "2.5", "2.8", "5.2",
 ];
 
 #[test]

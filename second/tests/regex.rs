@@ -1,7 +1,7 @@
 //! The matcher against the C library's basic regular expressions, "C" locale.
 //!
 //! Compared are the patterns document 01 accepts; the C library must accept each of them and
-//! agree on every text. Left out:
+//! agree on every text, and on the place where it matches. Left out:
 //! - byte 0 in a pattern or text: the C library ends strings there;
 //! - what document 01 refuses and the C library may accept: the empty pattern, `\(` `\)` `\{`
 //!   `\}` `\1` and every other pair but six, `[.` `[=` `[:` in a list, `a**`, `[a-c-e]`, more
@@ -13,6 +13,7 @@
 use second::maker::random::Random;
 use second::matching::{matches, Letters};
 use second::pattern;
+use second::place::place;
 use std::ffi::{c_char, c_int, c_void, CString};
 
 /// Larger than `regex_t` of any libc this runs on (64 bytes with glibc).
@@ -51,6 +52,16 @@ impl Regex {
         let text = CString::new(text).expect("no byte 0");
         // SAFETY: the buffer holds a compiled regex_t; no parts are asked for.
         unsafe { regexec(self.0 .0.as_ptr().cast(), text.as_ptr(), 0, std::ptr::null_mut(), 0) == 0 }
+    }
+
+    /// Start and end of "the leftmost, and of those the longest" part, as POSIX has it too.
+    fn place(&self, text: &[u8]) -> Option<(c_int, c_int)> {
+        let text = CString::new(text).expect("no byte 0");
+        let mut part = [0 as c_int; 2];
+        // SAFETY: as above; one part is asked for, a regmatch_t of two regoff_t, which are int.
+        let met =
+            unsafe { regexec(self.0 .0.as_ptr().cast(), text.as_ptr(), 1, part.as_mut_ptr().cast(), 0) == 0 };
+        met.then_some((part[0], part[1]))
     }
 }
 
@@ -112,6 +123,9 @@ fn agrees_with_the_c_library() {
             let text = text(&mut random, TEXT_BYTES, 7);
             let ours = matches(&read, &text, Letters::AsWritten);
             assert_eq!(ours, regex.matches(&text), "{shown} on {}", text.escape_ascii());
+            let placed = place(&read, &text)
+                .map(|place| (place.start as c_int, (place.start + place.length) as c_int));
+            assert_eq!(placed, regex.place(&text), "{shown} on {}", text.escape_ascii());
             compared += 1;
             matched += ours as usize;
         }

@@ -3,7 +3,7 @@ use mathlib.Core.List.{List}
 use mathlib.Core.Path.{_≡_, sym, _∙_}
 use Prim.Native.Nat.{ℕ}
 use Rattle.session.specs.declared.Session.{Session}
-use Rattle.ifc.specs.Exports.{CheckTo, OpenTo, ReportTo, ServerTo, InformationTo, AdvanceTo, ListTo}
+use Rattle.ifc.specs.Exports.{CheckTo, OpenTo, ReportTo, ServerTo, InformationTo, AdvanceTo, ListTo, ShowTo}
 
 -- both are this
 both : {A : Type 0} {a b c : A} → a ≡ c → b ≡ c → a ≡ b
@@ -68,4 +68,16 @@ one-list h k = (
   both (h .count-is) (k .count-is),
   both (h .examined-is) (k .examined-is),
   both (h .trials-is) (k .trials-is),
+)
+
+pub one-show : {image request : List ℕ} {row n n′ p p′ f f′ i i′ v v′ s s′ l l′ : ℕ} → ShowTo image request row n p f i v s l
+    → ShowTo image request row n′ p′ f′ i′ v′ s′ l′ → (n ≡ n′) × (p ≡ p′) × (f ≡ f′) × (i ≡ i′) × (v ≡ v′) × (s ≡ s′) × (l ≡ l′)
+one-show h k = (
+  both (h .number-is) (k .number-is),
+  both (h .place-is) (k .place-is),
+  both (h .found-is) (k .found-is),
+  both (h .field-is) (k .field-is),
+  both (h .value-is) (k .value-is),
+  both (h .start-is) (k .start-is),
+  both (h .size-is) (k .size-is),
 )

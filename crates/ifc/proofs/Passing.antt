@@ -14,7 +14,9 @@ use Rattle.route.specs.Advance.{Advances}
 use Rattle.listing.specs.Listing.{Lists}
 use Rattle.route.specs.declared.Advanced.{Advanced}
 use Rattle.listing.specs.declared.Listed.{Listed}
-use Rattle.ifc.specs.Exports.{as-number, session-of, CheckTo, OpenTo, ReportTo, ServerTo, InformationTo, AdvanceTo, ListTo}
+use Rattle.show.specs.Show.{Shows}
+use Rattle.show.specs.declared.Answer.{Answer}
+use Rattle.ifc.specs.Exports.{as-number, session-of, CheckTo, OpenTo, ReportTo, ServerTo, InformationTo, AdvanceTo, ListTo, ShowTo}
 
 pub passes-check : {image : List ℕ} {a : Checked} → Checks image a → CheckTo image (a .refusal) (a .place)
 passes-check h = record { number-is = ap (λ (x : Checked). x .refusal) (h .answer); place-is = ap (λ (x : Checked). x .place) (h .answer) }
@@ -86,4 +88,17 @@ passes-list h =
       count-is = ap (λ (x : Listed). x .count) (h .answer);
       examined-is = ap (λ (x : Listed). x .examined) (h .answer);
       trials-is = ap (λ (x : Listed). x .trials) (h .answer);
+    }
+
+pub passes-show : {image request : List ℕ} {row : ℕ} {a : Answer} → Shows image request row a
+    → ShowTo image request row (a .refusal) (a .place) (a .found) (a .field) (a .value) (a .start) (a .size)
+passes-show h =
+    record {
+      number-is = ap (λ (x : Answer). x .refusal) (h .answer);
+      place-is = ap (λ (x : Answer). x .place) (h .answer);
+      found-is = ap (λ (x : Answer). x .found) (h .answer);
+      field-is = ap (λ (x : Answer). x .field) (h .answer);
+      value-is = ap (λ (x : Answer). x .value) (h .answer);
+      start-is = ap (λ (x : Answer). x .start) (h .answer);
+      size-is = ap (λ (x : Answer). x .size) (h .answer);
     }

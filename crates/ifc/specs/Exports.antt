@@ -10,6 +10,7 @@ use Rattle.session.specs.declared.Session.{Session}
 use Rattle.rows.specs.Tried.{given}
 use Rattle.route.specs.Advance.{advance}
 use Rattle.listing.specs.Listing.{listing}
+use Rattle.show.specs.Show.{show}
 
 -- yes is 1, no is 0
 abbrev pub as-number : Bool → ℕ
@@ -77,3 +78,13 @@ pub record ListTo (image request : List ℕ) (case registration : ℕ) (before a
   pub count-is : count ≡ listing (given case registration) image request before .answer .count
   pub examined-is : examined ≡ listing (given case registration) image request before .answer .examined
   pub trials-is : trials ≡ listing (given case registration) image request before .answer .trials
+
+-- showing a row's match: the field or line, the value, and the part's place and length in that
+pub record ShowTo (image request : List ℕ) (row number place found field value start size : ℕ) : Type 0 where
+  pub number-is : number ≡ show image request row .refusal
+  pub place-is : place ≡ show image request row .place
+  pub found-is : found ≡ show image request row .found
+  pub field-is : field ≡ show image request row .field
+  pub value-is : value ≡ show image request row .value
+  pub start-is : start ≡ show image request row .start
+  pub size-is : size ≡ show image request row .size

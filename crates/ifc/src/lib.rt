@@ -1,6 +1,6 @@
 // The calls as C makes them: numbers and bytes in, numbers out. Nothing but passing on.
 ghost use mathlib.Core.Path.{_≡_};
-ghost use Rattle.ifc.specs.Exports.{session-of, CheckTo, OpenTo, ReportTo, AdvanceTo, ListTo, ServerTo, InformationTo, as-number};
+ghost use Rattle.ifc.specs.Exports.{session-of, CheckTo, OpenTo, ReportTo, AdvanceTo, ListTo, ServerTo, InformationTo, ShowTo, as-number};
 use listing::list as list_into;
 use lookups::check;
 use lookups::information;
@@ -10,6 +10,7 @@ use rows::Given;
 use session::Session;
 use session::open;
 use session::report as report_on;
+use show::show;
 
 #[no_mangle]
 pub extern "C" fn ifc_check(image: &[u8], place: &mut u32) -> u32
@@ -166,4 +167,28 @@ pub extern "C" fn ifc_information(
     *start = info.start;
     *length = info.length;
     info.refusal
+}
+
+#[no_mangle]
+pub extern "C" fn ifc_show(
+    image: &[u8],
+    request: &[u8],
+    row: u32,
+    place: &mut u32,
+    found: &mut u32,
+    field: &mut u32,
+    value: &mut u32,
+    start: &mut u32,
+    length: &mut u32,
+) -> u32
+    ensures { λ r. ⌜ ShowTo (now (image .entry)) (now (request .entry)) row r (now (place .exit)) (now (found .exit)) (now (field .exit)) (now (value .exit)) (now (start .exit)) (now (length .exit)) ⌝ }
+{
+    let shown = show(image, request, row);
+    *place = shown.place;
+    *found = shown.found;
+    *field = shown.field;
+    *value = shown.value;
+    *start = shown.start;
+    *length = shown.size;
+    shown.refusal
 }

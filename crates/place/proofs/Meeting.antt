@@ -3,7 +3,9 @@ use mathlib.Core.Path.{_≡_, refl, ap, ap₂, _∙_}
 use mathlib.Core.Bool.{Bool, true, false, _&&_, _||_, or-false}
 use mathlib.Core.Option.{Option, none, some}
 use mathlib.Core.List.{List, [], _∷_}
-use Prim.Native.Nat.{ℕ}
+use Prim.Native.Nat.{ℕ, _+_, _≤_}
+use native.Mathlib.Omega.{arith}
+use lib.ListN.{length}
 use Rattle.octets.specs.Lists.{pick}
 use Rattle.pattern.specs.Answers.{meet-as, matches-as, read-matches, meets-text}
 use Rattle.pattern.specs.Matching.{repeated, single-then, front, somewhere, matches, written-matches, name-matches}
@@ -11,6 +13,7 @@ use Rattle.basic.specs.Pattern.{Atom, Elem, once, star, Pattern}
 use Rattle.basic.specs.Reading.{read-pattern}
 use Rattle.place.specs.Place.{longer, one-more, single-far, repeated-far, furthest, nowhere, here-or, first-place, place-of, place-read, place-text}
 use Rattle.place.specs.declared.Place.{Place}
+use Rattle.place.proofs.Placing.{place-is-best, place-sound}
 
 -- whether there is a length
 abbrev given : Option ℕ → Bool
@@ -70,7 +73,7 @@ unfolding place-of matches
 place-matches meet true es end s = found-alone (furthest meet end es) (front meet end es) (front-given meet end es) s
 place-matches meet false es end s = found-somewhere (furthest meet end es) (front meet end es) (front-given meet end es) s
 
-place-matches-as : (fold : Bool) (p : Pattern) (t : List ℕ) → place-of (meet-as fold) p t .found ≡ matches-as fold p t
+pub place-matches-as : (fold : Bool) (p : Pattern) (t : List ℕ) → place-of (meet-as fold) p t .found ≡ matches-as fold p t
 unfolding written-matches name-matches
 place-matches-as true p t = place-matches (meet-as true) (p .at-start) (p .elems) (p .at-end) t
 place-matches-as false p t = place-matches (meet-as false) (p .at-start) (p .elems) (p .at-end) t
@@ -82,3 +85,18 @@ place-meets fold s t = go (read-pattern s)
     go : (o : Option Pattern) → place-read fold o t .found ≡ read-matches fold o t
     go none = refl
     go (some p) = place-matches-as fold p t
+
+-- it lies in the text
+pub place-within : (fold : Bool) (s t : List ℕ) → place-text fold s t .start + place-text fold s t .size ≤ length t
+unfolding place-text
+place-within fold s t = go (read-pattern s)
+  where
+    by : (x : Pattern) (b : Bool) → place-of (meet-as fold) x t .found ≡ b → place-of (meet-as fold) x t .start + place-of (meet-as fold) x t .size ≤ length t
+    by x true e = place-sound (meet-as fold) x t e .fits .within
+    by x false e =
+        let z = place-is-best (meet-as fold) x t .quiet e in
+        omega (arith, ap (λ (r : Place). r .start) z, ap (λ (r : Place). r .size) z)
+
+    go : (o : Option Pattern) → place-read fold o t .start + place-read fold o t .size ≤ length t
+    go none = omega arith
+    go (some x) = by x (place-of (meet-as fold) x t .found) refl

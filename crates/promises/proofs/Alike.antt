@@ -28,11 +28,11 @@ use Rattle.promises.proofs.StartLine.{start-same}
 
 -- ---- what must agree, of the requests as they are read
 
-record Alike (rows : List Row) (q r : Request) : Type 0 where
-  same-method : q .method ≡ r .method
-  same-uri : q .uri ≡ r .uri
-  same-fields : AgreeFields rows (q .fields) (r .fields)
-  same-body : T (any-description rows) → q .body ≡ r .body
+pub record Alike (rows : List Row) (q r : Request) : Type 0 where
+  pub same-method : q .method ≡ r .method
+  pub same-uri : q .uri ≡ r .uri
+  pub same-fields : AgreeFields rows (q .fields) (r .fields)
+  pub same-body : T (any-description rows) → q .body ≡ r .body
 
 -- ---- a row
 
@@ -52,7 +52,7 @@ fields-weaken none-left = none-left
 fields-weaken {x} {rows} (field-and {f = f} n v rest) =
     field-and n (λ t. v (asked-later x rows (f .name) t)) (fields-weaken rest)
 
-weaken : {x : Row} {rows : List Row} {q r : Request} → Alike (x ∷ rows) q r → Alike rows q r
+pub weaken : {x : Row} {rows : List Row} {q r : Request} → Alike (x ∷ rows) q r → Alike rows q r
 weaken {x} {rows} a = record {
   same-method = a .same-method;
   same-uri = a .same-uri;
@@ -61,12 +61,12 @@ weaken {x} {rows} a = record {
 }
 
 -- the fields, seen by a row whose header is h
-data SeenFields (h : Pattern) : List Field → List Field → Type 0 where
+pub data SeenFields (h : Pattern) : List Field → List Field → Type 0 where
   seen-none : SeenFields h [] []
   seen-and : {f g : Field} {fs gs : List Field} → f .name ≡ g .name → (T (name-matches h (f .name)) → f .values ≡ g .values)
       → SeenFields h fs gs → SeenFields h (f ∷ fs) (g ∷ gs)
 
-seen : (h : Pattern) (rows : List Row) {fs gs : List Field} → ((name : List ℕ) → T (name-matches h name) → T (any-header rows name))
+pub seen : (h : Pattern) (rows : List Row) {fs gs : List Field} → ((name : List ℕ) → T (name-matches h name) → T (any-header rows name))
     → AgreeFields rows fs gs → SeenFields h fs gs
 seen h rows c none-left = seen-none
 seen h rows c (field-and {f = f} n v rest) =
@@ -121,12 +121,12 @@ module _ (rows : List Row) (asks : T (any-description rows)) where
   typed-same none-left = refl
   typed-same (field-and {f = f} {g = g} {fs = fs} {gs = gs} n v rest) = typed-and f g (only typed fs) (only typed gs) n v (typed-same rest)
 
-  lines-alike : (q r : Request) → Alike rows q r → request-lines q ≡ request-lines r
+  pub lines-alike : (q r : Request) → Alike rows q r → request-lines q ≡ request-lines r
   unfolding request-lines is-description
   lines-alike q r a =
       ap₂ (λ (fs : List Field) (b : List ℕ). pick (described-by fs) (session-lines b) []) (typed-same (a .same-fields)) (a .same-body asks)
 
-asks-body : (x : Row) (rows : List Row) (h : Pattern) (c : Option Pattern) → x .test ≡ description h c → T (any-description (x ∷ rows))
+pub asks-body : (x : Row) (rows : List Row) (h : Pattern) (c : Option Pattern) → x .test ≡ description h c → T (any-description (x ∷ rows))
 asks-body x rows h c e = or-left (describes (x .test)) (any-description rows) (subst (λ (k : Test). T (describes k)) (sym e) tt)
 
 module _ (q r : Request) where
@@ -210,7 +210,7 @@ module _ (q r : Request) where
 -- ---- the calls
 
 module _ (image a b : List ℕ) (h : Agree image a b) where
-  alike : Alike (h .profile .rows) (h .q) (h .r)
+  pub alike : Alike (h .profile .rows) (h .q) (h .r)
   alike =
       let s = start-same a b (h .q) (h .r) (h .reads-q) (h .reads-r) (h .same-start-line) in
       record { same-method = s .0; same-uri = s .1; same-fields = h .same-fields; same-body = h .same-body }

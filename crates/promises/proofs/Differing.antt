@@ -7,6 +7,7 @@ use Rattle.octets.specs.Lists.{text}
 use Rattle.pattern.specs.Matching.{name-matches}
 use Rattle.profile.specs.Decoded.{profile-in}
 use Rattle.profile.specs.Judging.{judge}
+use Rattle.profile.specs.Examples.{row-of, member-of, criterion-of}
 use Rattle.profile.specs.Written.{written}
 use Rattle.request.specs.Request.{Field, read-request}
 use Rattle.request.specs.Places.{request-of}
@@ -58,3 +59,19 @@ short-agree = record {
 pub asked-differ : (advance (fresh 0) (from-joe 0) (invite "joe" "1" "m=a") .outcome ≡ 1) × (advance (fresh 0) (from-joe 0) (invite "ann" "1" "m=a") .outcome ≡ 2)
 unfolding invite written advance
 asked-differ = (refl, refl)
+
+-- another Content-Type, where a row asks for a line `m`
+abbrev pub line-m : List ℕ
+line-m = written (record {
+  strings = text "m" ∷ text "sip:a" ∷ [];
+  rows = row-of 0 4 0 65535 ∷ [];
+  members = member-of 0 0 ∷ [];
+  criteria = criterion-of 7 0 0 1 1 0 ∷ [];
+})
+
+pub typed : String → List ℕ
+typed type = text "INVITE sip:b SIP/2.0\r\nc: " ++ text type ++ text "\r\n\r\nm=a"
+
+pub type-differ : (advance (fresh 0) line-m (typed "application/sdp") .outcome ≡ 1) × (advance (fresh 0) line-m (typed "text/plain") .outcome ≡ 2)
+unfolding typed written advance
+type-differ = (refl, refl)

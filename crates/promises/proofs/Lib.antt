@@ -1,4 +1,5 @@
 pub mod Alike
+pub mod AlikeShown
 pub mod Asked
 pub mod AtMost
 pub mod Differing

@@ -5,27 +5,32 @@ use mathlib.Core.Bool.{Bool, true}
 use mathlib.Core.Path.{_≡_, sym, ap, _∙_}
 use mathlib.Core.Logic.{_↔_}
 use Prim.Native.Nat.{ℕ, _≤_, _<_, _^_}
-use mathlib.Core.List.{List, List·Memᴰ}
+use mathlib.Core.List.{List, List·Memᴰ, [], _∷_}
 use lib.ListN.{length, getElem?}
 use lib.Dec.{T, eqb}
-use mathlib.Core.Option.{none, some}
+use mathlib.Core.Option.{none, some, Option}
 use Rattle.octets.specs.Lists.{pick, every}
 use Rattle.basic.specs.Pattern.{Atom, Pattern, Matches}
-use Rattle.pattern.specs.Matching.{matches}
+use Rattle.pattern.specs.Matching.{matches, written-matches, name-matches}
 use Rattle.pattern.proofs.Meaning.{matches-iff}
-use Rattle.profile.specs.Image.{Stored, Criterion, Profile, accepted, refused}
+use Rattle.profile.specs.Image.{Stored, Criterion, Profile, accepted, refused, header, description}
 use Rattle.profile.specs.Judging.{judge}
 use Rattle.profile.proofs.Placed.{Fault, placed-low}
 use Rattle.lookups.specs.Lookups.{check, server, information, no-part, part-of, Checks, Serves, Informs}
 use Rattle.lookups.specs.declared.Checked.{Checked}
 use Rattle.lookups.specs.declared.Lookup.{Lookup}
 use Rattle.lookups.proofs.Parts.{server-part, information-part, information-told, information-absent}
-use Rattle.request.specs.Request.{Request}
+use Rattle.request.specs.Request.{Request, Field, request-lines}
 use Rattle.session.specs.Session.{possible, ready, waiting, released, ended, fresh, unopened, open-session, goes, report-session, Opens, Reports}
 use Rattle.session.specs.declared.Session.{Session}
 use Rattle.session.specs.declared.Opened.{Opened}
 use Rattle.session.specs.declared.Reported.{Reported}
+use Rattle.contents.specs.Body.{Line}
+use Rattle.rows.specs.Rows.{test-fits}
 use Rattle.rows.specs.declared.Given.{Given}
+use Rattle.show.specs.Show.{test-shown, show, Shows, PartIn}
+use Rattle.show.specs.declared.Answer.{Answer}
+use Rattle.show.proofs.Saying as saying
 use Rattle.order.specs.Order.{Numbered, numbered, priority}
 use Rattle.route.specs.Advance.{advance, Advances}
 use Rattle.route.specs.declared.Advanced.{Advanced}
@@ -39,11 +44,12 @@ use Rattle.promises.specs.Common as common
 use Rattle.promises.specs.Marked as marked
 use Rattle.promises.specs.Passed.{Step, Walk, Over, Fits, Asks, NeverAsked, NoneAsked, Turn, PassedAt, Became, WayPast}
 use Rattle.promises.specs.Reached.{Reached}
-use Rattle.promises.specs.Refusals.{First, check-lines, open-lines, advance-lines, listing-lines, report-lines, lookup-lines, AdvanceUnchanged, ListingUnchanged, LookupEmpty}
+use Rattle.promises.specs.Refusals.{First, check-lines, open-lines, advance-lines, listing-lines, report-lines, lookup-lines, AdvanceUnchanged, ListingUnchanged, LookupEmpty, show-lines, ShowEmpty}
 use Rattle.promises.specs.Walks.{Candidate, Answers, Answered, Listable, ListsAll, Move, forwards}
 use Rattle.promises.proofs.Alike as alike
+use Rattle.promises.proofs.AlikeShown.{show-same}
 use Rattle.promises.proofs.Asked as asked
-use Rattle.promises.proofs.Differing.{invite, under, unasked-agree, short-agree, asked-differ}
+use Rattle.promises.proofs.Differing.{invite, under, line-m, typed, unasked-agree, short-agree, asked-differ, type-differ}
 use Rattle.promises.proofs.OneAnswer as one
 use Rattle.promises.proofs.Sessions.{opens-fresh, report-answers}
 use Rattle.promises.proofs.AtMost.{at-most}
@@ -51,7 +57,7 @@ use Rattle.promises.proofs.Listings.{lists-all}
 use Rattle.promises.proofs.Next.{route-iff, advance-answers}
 use Rattle.promises.proofs.PassedBy as passed-by
 use Rattle.promises.proofs.Reach as reach
-use Rattle.promises.proofs.Refused.{of-checked, of-opened, of-advanced, of-listing, of-reported, of-lookup, check-refusal, open-refusal, advance-refusal, listing-refusal, report-refusal, server-refusal, information-refusal}
+use Rattle.promises.proofs.Refused.{of-checked, of-opened, of-advanced, of-listing, of-reported, of-lookup, check-refusal, open-refusal, advance-refusal, listing-refusal, report-refusal, server-refusal, information-refusal, of-shown, show-refusal}
 use Rattle.promises.proofs.Sequences.{run-same}
 use Rattle.promises.proofs.Unchanged as unchanged
 
@@ -107,6 +113,9 @@ information-refuses = information-refusal
 pub report-refuses : (x : Session) (n : ℕ) → First (report-lines x n) (of-reported (report-session x n))
 report-refuses = report-refusal
 
+pub show-refuses : (image r : List ℕ) (k : ℕ) → First (show-lines image r k) (of-shown (show image r k))
+show-refuses = show-refusal
+
 -- an image fault is one of the numbers 1 to 6; which of them comes first is the reading order of profile `Judging.profile`
 pub image-numbers : (image : List ℕ) (n place : ℕ) → judge image ≡ refused n place → (place ≤ 32768) × Fault n
 image-numbers = placed-low
@@ -131,6 +140,9 @@ server-empty = unchanged.server-empty
 
 pub information-empty : (image : List ℕ) (i : ℕ) → (information image i .refusal ≡ 0 → ⊥) → LookupEmpty (information image i)
 information-empty = unchanged.information-empty
+
+pub show-empty : (image r : List ℕ) (k : ℕ) → (show image r k .refusal ≡ 0 → ⊥) → ShowEmpty (show image r k)
+show-empty = unchanged.show-empty
 
 pub absent-is-empty : (image : List ℕ) (p : Profile) → judge image ≡ accepted p → (i : ℕ) (c : Criterion) → getElem? (p .criteria) i ≡ some c
     → c .info ≡ none → information image i ≡ no-part 0 0
@@ -194,6 +206,22 @@ pub present-is-told : (image : List ℕ) (p : Profile) → judge image ≡ accep
     → (x : Stored) → c .info ≡ some x → information image i .present ≡ true
 present-is-told = information-told
 
+-- ---- what a show tells (change request 2)
+
+-- something is shown exactly if the row matches, before its negation
+pub shown-iff-matched : (q : Request) (g : Given) (h : Pattern) (c : Option Pattern)
+    → (test-shown q (header h c) .found ≡ test-fits q g (header h c)) × (test-shown q (description h c) .found ≡ test-fits q g (description h c))
+shown-iff-matched = saying.shown-iff-matched
+
+-- "a theorem says that the part at that place of that value fits": none that fits begins earlier, and none from there is longer
+pub shown-field-fits : (q : Request) (h c : Pattern) → test-shown q (header h (some c)) .found ≡ true
+    → PartIn (λ (f : Field). name-matches h (f .name)) (λ f. f .values) c (q .fields) (test-shown q (header h (some c)))
+shown-field-fits = saying.header-part
+
+pub shown-line-fits : (q : Request) (h c : Pattern) → test-shown q (description h (some c)) .found ≡ true
+    → PartIn (λ (l : Line). written-matches h (l .type)) (λ l. l .value ∷ []) c (request-lines q) (test-shown q (description h (some c)))
+shown-line-fits = saying.line-part
+
 -- ---- demand 3: nothing else in two readable requests changes an answer
 
 pub advance-reads-no-more : (image a b : List ℕ) → MayDiffer image a b → (x : Session) → advance x image a ≡ advance x image b
@@ -201,6 +229,9 @@ advance-reads-no-more = alike.advance-same
 
 pub listing-reads-no-more : (image a b : List ℕ) → MayDiffer image a b → (g : Given) (before : List ℕ) → listing g image a before ≡ listing g image b before
 listing-reads-no-more = alike.listing-same
+
+pub show-reads-no-more : (image a b : List ℕ) → MayDiffer image a b → (k : ℕ) → show image a k ≡ show image b k
+show-reads-no-more = show-same
 
 -- over any sequence of calls: equal answers, refusals, counts, lists and sessions
 pub calls-read-no-more : {cs ds : List Call} → AllRelated cs ds → (st : Store) → run cs st ≡ run ds st
@@ -217,6 +248,10 @@ short-may-differ = agreeing short-agree
 -- two that differ in a value of which one asks, and do not
 pub asked-tells : (advance (fresh 0) (common.from-joe 0) (invite "joe" "1" "m=a") .outcome ≡ 1) × (advance (fresh 0) (common.from-joe 0) (invite "ann" "1" "m=a") .outcome ≡ 2)
 asked-tells = asked-differ
+
+-- and two that differ in the Content-Type value, where a row asks for a line of the body (change request 5)
+pub type-tells : (advance (fresh 0) line-m (typed "application/sdp") .outcome ≡ 1) × (advance (fresh 0) line-m (typed "text/plain") .outcome ≡ 2)
+type-tells = type-differ
 
 -- ---- one answer: what the contracts cite leaves no other
 
@@ -235,7 +270,7 @@ one-server = one.one-server
 pub one-information : {image : List ℕ} {i : ℕ} {a b : Lookup} → Informs image i a → Informs image i b → a ≡ b
 one-information = one.one-information
 
--- for an advance and a listing also where the request is another that may differ
+-- for an advance, a listing and a show also where the request is another that may differ
 pub one-advance : {x : Session} {image r s : List ℕ} {a b : Advanced} → MayDiffer image r s → Advances x image r a → Advances x image s b → a ≡ b
 one-advance {x} {image} {r} {s} d h k = h .answer ∙ advance-reads-no-more image r s d x ∙ sym (k .answer)
 
@@ -244,6 +279,9 @@ pub one-listing : {g : Given} {image r s before after after′ : List ℕ} {a b 
 one-listing {g} {image} {r} {s} {before} d h k =
     let same = listing-reads-no-more image r s d g before in
     (h .answer ∙ ap (λ (l : Listing). l .answer) same ∙ sym (k .answer), h .places ∙ ap (λ (l : Listing). l .places) same ∙ sym (k .places))
+
+pub one-show : {image r s : List ℕ} {k : ℕ} {a b : Answer} → MayDiffer image r s → Shows image r k a → Shows image s k b → a ≡ b
+one-show {image} {r} {s} {k} d h l = h .answer ∙ show-reads-no-more image r s d k ∙ sym (l .answer)
 
 -- ---- the examples
 

@@ -7,6 +7,8 @@ use Rattle.profile.specs.Image.{Row, Criterion}
 use Rattle.lookups.specs.Lookups.{Checks, Serves, Informs}
 use Rattle.lookups.specs.declared.Checked.{Checked}
 use Rattle.lookups.specs.declared.Lookup.{Lookup}
+use Rattle.show.specs.Show.{Shows}
+use Rattle.show.specs.declared.Answer.{Answer}
 use Rattle.session.specs.Session.{Opens, Reports}
 use Rattle.session.specs.declared.Session.{Session}
 use Rattle.session.specs.declared.Opened.{Opened}
@@ -31,6 +33,9 @@ one-server h k = h .answer ∙ sym (k .answer)
 
 pub one-information : {image : List ℕ} {i : ℕ} {a b : Lookup} → Informs image i a → Informs image i b → a ≡ b
 one-information h k = h .answer ∙ sym (k .answer)
+
+pub one-show : {image r : List ℕ} {k : ℕ} {a b : Answer} → Shows image r k a → Shows image r k b → a ≡ b
+one-show h k = h .answer ∙ sym (k .answer)
 
 pub one-open : {case : ℕ} {a b : Opened} → Opens case a → Opens case b → a ≡ b
 one-open h k = h .answer ∙ sym (k .answer)

@@ -2,7 +2,7 @@
 use borrow.Author.Tests.{ne-eqb}
 use mathlib.Core.Bool.{Bool, true, false, not, _&&_}
 use mathlib.Core.Option.{Option, none, some}
-use mathlib.Core.Path.{_≡_, refl, sym, subst}
+use mathlib.Core.Path.{_≡_, refl, sym, subst, ap, _∙_}
 use Prim.Native.Nat.{ℕ, zero, suc, _≤_, _<_}
 use native.Mathlib.Omega.{arith}
 use mathlib.Core.List.{List, [], _∷_}
@@ -10,7 +10,7 @@ use lib.ListN.{length, getElem?}
 use lib.Dec.{T, leb, eqb, not-T, leb→le, T-not}
 use Rattle.octets.specs.Lists.{pick, same, total}
 use Rattle.octets.proofs.Tests.{is-false, T-of}
-use Rattle.profile.specs.Image.{Stored, Criterion, Profile, Judged, accepted, refused}
+use Rattle.profile.specs.Image.{Stored, Criterion, Profile, Judged, accepted, refused, Row}
 use Rattle.profile.specs.Judging.{judge}
 use Rattle.lookups.specs.Lookups.{checked, check, the-part, look-at, look-judged, its-server, its-information, server, information}
 use Rattle.lookups.specs.declared.Checked.{Checked}
@@ -27,7 +27,9 @@ use Rattle.order.specs.Order.{Numbered, least, candidates}
 use Rattle.route.specs.Advance.{refuse, answer, walk, walk-with, in-session, advance-read, advance-judged, advance}
 use Rattle.listing.specs.Listing.{Listing, listed, refuse-list, filled, fill, fill-with, list-read, list-judged, listing}
 use Rattle.route.specs.declared.Advanced.{Advanced}
-use Rattle.promises.specs.Refusals.{Line, at-0, Refusal, no-refusal, First, none-holds, this-one, a-later-one, image-line, unreadable, is-register, too-many, missing, no-such, check-lines, open-lines, advance-lines, report-lines, listing-lines, lookup-lines}
+use Rattle.show.specs.Show.{show-row, show-read, show-judged, show}
+use Rattle.show.specs.declared.Answer.{Answer}
+use Rattle.promises.specs.Refusals.{Line, at-0, Refusal, no-refusal, First, none-holds, this-one, a-later-one, image-line, unreadable, is-register, too-many, missing, no-such, check-lines, open-lines, advance-lines, report-lines, listing-lines, lookup-lines, missing-row, no-row, show-lines}
 
 -- ---- the first line that holds
 
@@ -73,6 +75,9 @@ of-listing l = record { number = l .answer .refusal; place = l .answer .place }
 
 abbrev pub of-lookup : Lookup → Refusal
 of-lookup a = record { number = a .refusal; place = a .place }
+
+abbrev pub of-shown : Answer → Refusal
+of-shown a = record { number = a .refusal; place = a .place }
 
 -- ---- check
 
@@ -213,3 +218,22 @@ server-refusal image i = as-first (lookup-lines image i) _ (looked-first its-ser
 pub information-refusal : (image : List ℕ) (i : ℕ) → First (lookup-lines image i) (of-lookup (information image i))
 unfolding information
 information-refusal image i = as-first (lookup-lines image i) _ (looked-first its-information (judge image) i)
+
+-- ---- show
+
+shown-first : (j : Judged) (r : List ℕ) (k : ℕ) (o : Option Request) → read-request r ≡ o
+    → of-shown (show-judged j r k) ≡ first-of (image-line j ∷ at-0 (unreadable o) 7 ∷ at-0 (no-row j k) 13 ∷ [])
+shown-first (refused n place) r k o e = refl
+shown-first (accepted p) r k o e = ap (λ (q : Option Request). of-shown (show-read p q k)) e ∙ by o
+  where
+    go : (q : Request) (x : Option Row) → of-shown (show-row q x) ≡ first-of (at-0 (missing-row x) 13 ∷ [])
+    go q none = refl
+    go q (some x) = refl
+
+    by : (o : Option Request) → of-shown (show-read p o k) ≡ first-of (at-0 (unreadable o) 7 ∷ at-0 (missing-row (getElem? (p .rows) k)) 13 ∷ [])
+    by none = refl
+    by (some q) = go q (getElem? (p .rows) k)
+
+pub show-refusal : (image r : List ℕ) (k : ℕ) → First (show-lines image r k) (of-shown (show image r k))
+unfolding show
+show-refusal image r k = as-first (show-lines image r k) _ (shown-first (judge image) r k (read-request r) refl)

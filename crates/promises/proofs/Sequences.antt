@@ -3,8 +3,10 @@ use mathlib.Core.Path.{_≡_, refl, ap, _∙_}
 use mathlib.Core.List.{List, _∷_}
 use Rattle.listing.specs.Listing.{Listing}
 use Rattle.route.specs.declared.Advanced.{Advanced}
-use Rattle.promises.specs.Calls.{Call, advanced, listed, Store, put, Stepped, step, Ran, run, Related, equal, advances, lists, AllRelated, no-calls, call-and}
+use Rattle.show.specs.declared.Answer.{Answer}
+use Rattle.promises.specs.Calls.{Call, advanced, listed, shown, Store, put, Stepped, step, Ran, run, Related, equal, advances, lists, shows, AllRelated, no-calls, call-and}
 use Rattle.promises.proofs.Alike.{advance-same, listing-same}
+use Rattle.promises.proofs.AlikeShown.{show-same}
 
 step-same : {c d : Call} → Related c d → (st : Store) → step c st ≡ step d st
 unfolding step
@@ -13,6 +15,7 @@ step-same (advances {k = k} {image = image} {a = a} {b = b} h) st =
     ap (λ (w : Advanced). record { answer = advanced w; store = put st k (w .session) }) (advance-same image a b h (st k))
 step-same (lists {g = g} {image = image} {a = a} {b = b} {places = places} h) st =
     ap (λ (w : Listing). record { answer = listed w; store = st }) (listing-same image a b h g places)
+step-same (shows {image = image} {a = a} {b = b} {row = k} h) st = ap (λ (w : Answer). record { answer = shown w; store = st }) (show-same image a b h k)
 
 -- every answer is equal, refusals and counts included, and so is every session
 pub run-same : {cs ds : List Call} → AllRelated cs ds → (st : Store) → run cs st ≡ run ds st

@@ -8,7 +8,7 @@ use lib.ListN.{length, getElem?}
 use lib.Dec.{leb, eqb}
 use Rattle.octets.specs.Lists.{pick, same, total}
 use Rattle.octets.proofs.Tests.{either}
-use Rattle.profile.specs.Image.{Stored, Criterion, Profile, Judged, accepted, refused}
+use Rattle.profile.specs.Image.{Stored, Criterion, Profile, Judged, accepted, refused, Row}
 use Rattle.profile.specs.Judging.{judge}
 use Rattle.lookups.specs.Lookups.{the-part, look-at, look-judged, its-server, its-information, server, information}
 use Rattle.request.specs.Request.{Request, read-request}
@@ -23,7 +23,8 @@ use Rattle.order.specs.Order.{Numbered, least, candidates}
 use Rattle.route.specs.Advance.{refuse, answer, walk, walk-with, in-session, advance-read, advance-judged, advance}
 use Rattle.listing.specs.Listing.{Listing, listed, refuse-list, filled, fill, fill-with, list-read, list-judged, listing}
 use Rattle.route.specs.declared.Advanced.{Advanced}
-use Rattle.promises.specs.Refusals.{AdvanceUnchanged, ListingUnchanged, LookupEmpty}
+use Rattle.show.specs.Show.{show-row, show-read, show-judged, show}
+use Rattle.promises.specs.Refusals.{AdvanceUnchanged, ListingUnchanged, LookupEmpty, ShowEmpty}
 
 -- ---- opening: "a finished session of case 0"
 
@@ -138,3 +139,21 @@ server-empty image i = looked-empty its-server (judge image) i
 pub information-empty : (image : List ℕ) (i : ℕ) → (information image i .refusal ≡ 0 → ⊥) → LookupEmpty (information image i)
 unfolding information
 information-empty image i = looked-empty its-information (judge image) i
+
+-- ---- show
+
+show-empty-by : (j : Judged) (r : List ℕ) (k : ℕ) → (show-judged j r k .refusal ≡ 0 → ⊥) → ShowEmpty (show-judged j r k)
+show-empty-by (refused n place) r k = λ h. record { found = refl; field = refl; value = refl; start = refl; size = refl }
+show-empty-by (accepted p) r k = by (read-request r)
+  where
+    go : (q : Request) (o : Option Row) → (show-row q o .refusal ≡ 0 → ⊥) → ShowEmpty (show-row q o)
+    go q none h = record { found = refl; field = refl; value = refl; start = refl; size = refl }
+    go q (some x) h = absurd (h refl)
+
+    by : (o : Option Request) → (show-read p o k .refusal ≡ 0 → ⊥) → ShowEmpty (show-read p o k)
+    by none h = record { found = refl; field = refl; value = refl; start = refl; size = refl }
+    by (some q) h = go q (getElem? (p .rows) k) h
+
+pub show-empty : (image r : List ℕ) (k : ℕ) → (show image r k .refusal ≡ 0 → ⊥) → ShowEmpty (show image r k)
+unfolding show
+show-empty image r k = show-empty-by (judge image) r k

@@ -14,6 +14,8 @@ use Rattle.rows.specs.declared.Given.{Given}
 use Rattle.route.specs.Advance.{advance}
 use Rattle.listing.specs.Listing.{Listing, listing}
 use Rattle.route.specs.declared.Advanced.{Advanced}
+use Rattle.show.specs.Show.{show}
+use Rattle.show.specs.declared.Answer as show
 use Rattle.promises.specs.Agreement.{MayDiffer}
 
 -- every call of the library, with all that it is lent; a session is named by its slot
@@ -25,6 +27,7 @@ pub data Call : Type 0 where
   listing-it : (given : Given) (image request places : List ℕ) → Call
   serving : (image : List ℕ) (criterion : ℕ) → Call
   informing : (image : List ℕ) (criterion : ℕ) → Call
+  showing : (image request : List ℕ) (row : ℕ) → Call
 
 -- what it answers, every number and every lent place
 pub data Answer : Type 0 where
@@ -34,6 +37,7 @@ pub data Answer : Type 0 where
   reported : Reported → Answer
   listed : Listing → Answer
   looked : Lookup → Answer
+  shown : show.Answer → Answer
 
 abbrev pub Store : Type 0
 Store = ℕ → Session
@@ -55,6 +59,7 @@ step (reporting k n) st = let a = report-session (st k) n in record { answer = r
 step (listing-it g image r places) st = record { answer = listed (listing g image r places); store = st }
 step (serving image i) st = record { answer = looked (server image i); store = st }
 step (informing image i) st = record { answer = looked (information image i); store = st }
+step (showing image r k) st = record { answer = shown (show image r k); store = st }
 
 -- ---- one after the other
 
@@ -77,6 +82,7 @@ pub data Related : Call → Call → Type 0 where
   equal : {c : Call} → Related c c
   advances : {k : ℕ} {image a b : List ℕ} → MayDiffer image a b → Related (advancing k image a) (advancing k image b)
   lists : {g : Given} {image a b places : List ℕ} → MayDiffer image a b → Related (listing-it g image a places) (listing-it g image b places)
+  shows : {image a b : List ℕ} {row : ℕ} → MayDiffer image a b → Related (showing image a row) (showing image b row)
 
 pub data AllRelated : List Call → List Call → Type 0 where
   no-calls : AllRelated [] []

@@ -7,7 +7,7 @@ use mathlib.Core.List.{List, [], _∷_}
 use lib.ListN.{length, getElem?}
 use lib.Dec.{T, leb, eqb}
 use Rattle.octets.specs.Lists.{same}
-use Rattle.profile.specs.Image.{Criterion, Judged, accepted, refused}
+use Rattle.profile.specs.Image.{Row, Criterion, Judged, accepted, refused}
 use Rattle.profile.specs.Judging.{judge}
 use Rattle.lookups.specs.declared.Lookup.{Lookup}
 use Rattle.request.specs.Request.{Request, read-request}
@@ -16,6 +16,7 @@ use Rattle.session.specs.declared.Session.{Session}
 use Rattle.rows.specs.Rows.{REGISTER}
 use Rattle.rows.specs.declared.Given.{Given}
 use Rattle.fitting.specs.Fitting.{criterion-fits}
+use Rattle.show.specs.declared.Answer.{Answer}
 use Rattle.listing.specs.Listing.{Listing, listed}
 use Rattle.route.specs.declared.Advanced.{Advanced}
 
@@ -77,6 +78,15 @@ abbrev pub no-such : Judged → ℕ → Bool
 no-such (refused n place) i = false
 no-such (accepted p) i = missing (getElem? (p .criteria) i)
 
+-- 13 of a show: no such row
+abbrev pub missing-row : Option Row → Bool
+missing-row none = true
+missing-row (some r) = false
+
+abbrev pub no-row : Judged → ℕ → Bool
+no-row (refused n place) k = false
+no-row (accepted p) k = missing-row (getElem? (p .rows) k)
+
 -- ---- the orders: "10, image faults, 7, 11, 8, 9, 12; for a lookup 13 after the image"
 
 abbrev pub check-lines : List ℕ → List Line
@@ -109,6 +119,10 @@ listing-lines g image r places =
 abbrev pub lookup-lines : List ℕ → ℕ → List Line
 lookup-lines image i = image-line (judge image) ∷ at-0 (no-such (judge image) i) 13 ∷ []
 
+-- "13 for a row number outside the table, after the image and request checks" (change request 2)
+abbrev pub show-lines : List ℕ → List ℕ → ℕ → List Line
+show-lines image r k = image-line (judge image) ∷ at-0 (unreadable (read-request r)) 7 ∷ at-0 (no-row (judge image) k) 13 ∷ []
+
 -- ---- "on a refusal the session comes back as it went in, counts are zero, no place of an output list is written"
 
 pub record AdvanceUnchanged (x : Session) (a : Advanced) : Type 0 where
@@ -130,3 +144,11 @@ pub record LookupEmpty (a : Lookup) : Type 0 where
   pub present : a .present ≡ false
   pub start : a .start ≡ 0
   pub length : a .length ≡ 0
+
+-- a show's numbers
+pub record ShowEmpty (a : Answer) : Type 0 where
+  pub found : a .found ≡ 0
+  pub field : a .field ≡ 0
+  pub value : a .value ≡ 0
+  pub start : a .start ≡ 0
+  pub size : a .size ≡ 0

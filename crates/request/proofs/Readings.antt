@@ -101,6 +101,9 @@ module _ (s starts colons : List ℕ) (p : Places) (k : Placed s starts colons p
   head-inside = omega (arith, accepted .body-inside)
 
   module _ (i : ℕ) (more : i < p .fields) where
+    pub index-low : i ≤ 65535
+    index-low = omega (arith, few s starts colons (p .head) (p .fields) places-alone i more)
+
     pub index-room : i + 1 < 18446744073709551616
     index-room = omega (arith, few s starts colons (p .head) (p .fields) places-alone i more)
 

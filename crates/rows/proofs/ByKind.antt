@@ -56,10 +56,10 @@ spare-read f g h c h-shape c-shape h-sets h-before c-sets c-before k l = record 
 }
 
 module _ (s starts colons : List ℕ) (p : Places) (k : Placed s starts colons p) where
-  abbrev rest : List ℕ
+  abbrev pub rest : List ℕ
   rest = take (length s - p .lines) (drop (p .lines) s)
 
-  rest-is : rest ≡ drop (p .lines) s
+  pub rest-is : rest ≡ drop (p .lines) s
   rest-is = take-all (length s - p .lines) (drop (p .lines) s) (le-of-eq (length-drop (p .lines) s))
 
   pub lines-short : length rest ≤ 65535
@@ -83,19 +83,19 @@ pub single-few : (b : Bool) (v : Verdict) → v ≡ one-trial b → v .trials �
 single-few b v e = let n : v .trials ≡ 1 = ap (λ (u : Verdict). u .trials) e in omega arith
 
 -- a row's test, by four tests of its kind
-abbrev chosen : Bool → Bool → Bool → Bool → List Stored → Row → Test
+abbrev pub chosen : Bool → Bool → Bool → Bool → List Stored → Row → Test
 chosen uri named head case strs r =
     pick uri (request-uri (string-of strs (r .first) .bytes))
     (pick named (method (string-of strs (r .first) .bytes) (r .set))
     (pick head (header (pattern-of strs (r .first)) (or-absent (pattern-of strs) (r .second)))
     (pick case (session-case (r .first)) (description (pattern-of strs (r .first)) (or-absent (pattern-of strs) (r .second))))))
 
-test-chosen : (strs : List Stored) (r : Row) (u m h c : Bool) → eqb (r .kind) 0 ≡ u → eqb (r .kind) 1 ≡ m → eqb (r .kind) 2 ≡ h → eqb (r .kind) 3 ≡ c
+pub test-chosen : (strs : List Stored) (r : Row) (u m h c : Bool) → eqb (r .kind) 0 ≡ u → eqb (r .kind) 1 ≡ m → eqb (r .kind) 2 ≡ h → eqb (r .kind) 3 ≡ c
     → test-from strs r ≡ chosen u m h c strs r
 unfolding test-from
 test-chosen strs r u m h c eu em eh ec = (λ i. chosen (eu i) (em i) (eh i) (ec i) strs r)
 
-kind-is : (strs : List Stored) (r : Row) (k : ℕ) → r .kind ≡ k → test-from strs r ≡ chosen (eqb k 0) (eqb k 1) (eqb k 2) (eqb k 3) strs r
+pub kind-is : (strs : List Stored) (r : Row) (k : ℕ) → r .kind ≡ k → test-from strs r ≡ chosen (eqb k 0) (eqb k 1) (eqb k 2) (eqb k 3) strs r
 kind-is strs r k e =
     test-chosen strs r (eqb k 0) (eqb k 1) (eqb k 2) (eqb k 3) (ap (λ (n : ℕ). eqb n 0) e) (ap (λ (n : ℕ). eqb n 1) e)
     (ap (λ (n : ℕ). eqb n 2) e) (ap (λ (n : ℕ). eqb n 3) e)

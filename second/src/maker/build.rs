@@ -56,6 +56,10 @@ pub fn information(label: &str, image: &[u8], number: u32) -> Case {
     case(Call::Information, label, image, b"", &[number])
 }
 
+pub fn show(label: &str, image: &[u8], request: &[u8], row: u32) -> Case {
+    case(Call::Show, label, image, request, &[row])
+}
+
 pub const READY: Session = Session { case: 0, state: 0, forwarded: 0, last: 0, handling: 0 };
 
 /// Ready again, with something in every number that a refusal must leave alone.

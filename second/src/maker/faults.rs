@@ -249,6 +249,7 @@ fn singles() -> Vec<Case> {
         cases.push(build::list(&label, &image, build::REGISTER, 0, 0, 5));
         cases.push(build::server(&label, &image, 0));
         cases.push(build::information(&label, &image, 0));
+        cases.push(build::show(&label, &image, build::INVITE, 2));
     }
     cases
 }

@@ -106,6 +106,9 @@ fn requests() -> Vec<Case> {
         };
         cases.push(build::advance(&label, &image, &request("INVITE"), READY));
         cases.push(build::list(&label, &image, &request("REGISTER"), 0, 0, 5));
+        for row in [0, 2, 4] {
+            cases.push(build::show(&label, &image, &request("INVITE"), row));
+        }
     }
     cases
 }

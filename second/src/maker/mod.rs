@@ -12,6 +12,7 @@ pub mod patterns;
 pub mod points;
 pub mod random;
 pub mod requests;
+pub mod shows;
 pub mod types;
 pub mod walks;
 
@@ -29,6 +30,7 @@ pub fn fixed() -> Vec<Case> {
     cases.extend(requests::cases());
     cases.extend(boundaries::cases());
     cases.extend(masses::cases());
+    cases.extend(shows::of_patterns());
     cases
 }
 
@@ -52,10 +54,11 @@ pub fn random(seed: u64, count: usize) -> Vec<Case> {
     cases
 }
 
-/// All fixed cases, then `count` random ones.
+/// All fixed cases, then `count` random ones, then a quarter as many of show.
 pub fn cases(seed: u64, count: usize) -> Vec<Case> {
     let mut cases = fixed();
     cases.extend(random(seed, count));
+    cases.extend(shows::random(seed, count / 4));
     cases
 }
 

@@ -7,9 +7,11 @@ use crate::twist::{twisted, Twist};
 pub fn lines(body: &[u8]) -> Vec<Line> {
     let mut rest = body;
     let mut lines = Vec::new();
+    let mut number = 0;
     while let Some(end) = rest.iter().position(|&byte| ends_line(byte)) {
-        lines.extend(field(drop_cr(&rest[..end])));
+        lines.extend(field(drop_cr(&rest[..end]), number));
         rest = &rest[end + 1..];
+        number += 1;
     }
     if twisted(Twist::LastLineNeedsEnd) {
         return lines;
@@ -17,7 +19,7 @@ pub fn lines(body: &[u8]) -> Vec<Line> {
     if twisted(Twist::LastCrDropped) {
         rest = drop_cr(rest);
     }
-    lines.extend(field(rest));
+    lines.extend(field(rest, number));
     lines
 }
 
@@ -37,7 +39,7 @@ fn drop_cr(line: &[u8]) -> &[u8] {
 }
 
 /// "A line is a field if its second byte is `=`."
-fn field(line: &[u8]) -> Option<Line> {
+fn field(line: &[u8], number: usize) -> Option<Line> {
     let (&kind, rest) = line.split_first()?;
     let value = rest.strip_prefix(b"=")?;
     let refused = twisted(Twist::TypeLettersOnly) && !kind.is_ascii_alphabetic()
@@ -46,5 +48,5 @@ fn field(line: &[u8]) -> Option<Line> {
         return None;
     }
     let value = if twisted(Twist::LineValueTrimmed) { value.trim_ascii() } else { value };
-    Some(Line { kind, value: value.to_vec() })
+    Some(Line { kind, value: value.to_vec(), number })
 }

@@ -163,7 +163,8 @@ fn field(text: &[u8]) -> Option<Field> {
         true => value::values(written, raw),
         false => value::values(&long, raw),
     };
-    Some(Field { name: long, written: written.to_vec(), values })
+    let blanks = raw.iter().take_while(|&&byte| is_blank(byte)).count();
+    Some(Field { name: long, written: written.to_vec(), values, reduced: value::reduce(raw), blanks })
 }
 
 /// Another way to read two fields of one name: as one field with the values of both.

@@ -27,6 +27,10 @@ pub struct Field {
     /// No row sees this.
     pub written: Vec<u8>,
     pub values: Vec<Vec<u8>>,
+    /// Before the cut; only a twist asks.
+    pub reduced: Vec<u8>,
+    /// How many blanks stood before the value; only a twist asks.
+    pub blanks: usize,
 }
 
 /// A body line that is a field.
@@ -34,6 +38,8 @@ pub struct Field {
 pub struct Line {
     pub kind: u8,
     pub value: Vec<u8>,
+    /// Which line of the body it is, those that are no field counted too; only a twist asks.
+    pub number: usize,
 }
 
 impl Request {

@@ -83,6 +83,12 @@ pub fn information(image: &[u8], number: u32) -> (u32, [u32; 4]) {
     (answer.number, answer.numbers[1..5].try_into().expect("four numbers"))
 }
 
+/// Number and place, found, field, value, start, length.
+pub fn show(image: &[u8], request: &[u8], row: u32) -> (u32, [u32; 6]) {
+    let answer = case::answer(&build::show("", image, request, row));
+    (answer.number, answer.numbers[1..7].try_into().expect("six numbers"))
+}
+
 pub fn accepted(pattern: &[u8]) -> bool {
     pattern::read(pattern).is_some()
 }

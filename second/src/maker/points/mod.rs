@@ -5,6 +5,7 @@ mod descriptions;
 mod fitting;
 mod image;
 mod names;
+mod shown;
 
 use super::boundaries::{pattern_image, shapes};
 use super::build::{self, advance, after, check, list, INVITE, READY, REGISTER};
@@ -24,6 +25,7 @@ pub fn cases() -> Vec<Case> {
     cases.extend(listing_points());
     cases.extend(wrong_ways());
     cases.extend(worked_trigger());
+    cases.extend(shown::cases());
     cases
 }
 

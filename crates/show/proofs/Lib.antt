@@ -1,0 +1,3 @@
+pub mod Calling
+pub mod Rowing
+pub mod Saying
