@@ -47,7 +47,7 @@ static void walk(uint32_t variant, struct walk *w) {
             n[0] = ifc_list(image, image_len, request, length, c, type, list, 16, &n[1], &n[2], &n[3], &n[4]);
         }
     }
-    for (uint32_t row = 0; row < 16; row++) {
+    for (uint32_t row = variant % 4; row < 16; row += 4) {
         uint32_t *n = w->shown[row];
         n[0] = ifc_show(image, image_len, request, length, row, &n[1], &n[2], &n[3], &n[4], &n[5], &n[6]);
     }
@@ -79,7 +79,7 @@ int main(void) {
         }
         for (int row = 0; row < 16; row++) shows += alone[i].shown[row][2];
     }
-    if (forwards < 1000 || listings < 1000 || shows < 1000) {
+    if (forwards < 1000 || listings < 1000 || shows < 500) {
         printf("threads: the sample leads nowhere (%u forwards, %u listed, %u shown)\n", forwards, listings, shows);
         return 1;
     }
