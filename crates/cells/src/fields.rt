@@ -6,26 +6,21 @@ ghost use lib.ListN.{length};
 ghost use Rattle.cells.specs.Places.{u8, u16, u32, limited, counted, exactly, word, long};
 ghost use Rattle.cells.specs.Answers.{field-out};
 use crate::Field;
-
-pub fn wide(b: u8) -> usize
-    ensures { λ r. ⌜ (r ≡ b) × (r < 256) ⌝ }
-{
-    b as usize
-}
+use octets::from_byte;
 
 // Two bytes of the image, as a number.
 pub fn number(s: &[u8], at: usize) -> usize
     requires { ⌜ at + 2 ≤ length (now s) ⌝ }
     ensures { λ r. ⌜ (r ≡ word (now (s .entry)) at) × (r < 65536) ⌝ }
 {
-    wide(s[at]) * 256 + wide(s[at + 1])
+    from_byte(s[at]) * 256 + from_byte(s[at + 1])
 }
 
 pub fn byte_at(s: &[u8], at: usize) -> Field
     ensures { λ r. ⌜ field-out r ≡ u8 (now (s .entry)) at ⌝ }
 {
     if at < s.len() {
-        Field::Is(wide(s[at]))
+        Field::Is(from_byte(s[at]))
     } else {
         Field::Refused {
             number: 2,

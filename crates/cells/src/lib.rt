@@ -9,7 +9,6 @@ pub use crate::fields::long_at;
 pub use crate::fields::number;
 pub use crate::fields::priority;
 pub use crate::fields::up_to;
-pub use crate::fields::wide;
 pub use crate::fields::word_at;
 pub use crate::string_table::index_at;
 pub use crate::string_table::index_or_absent;

@@ -94,7 +94,7 @@ pub fn judge_strings(s: &[u8], table: &[u16; 1024], n: usize, uses: &mut [u8; 10
     let classes = octets::class_table();
     let mut k: usize = 0;
     while k < n {
-        let t = text(s, octets::as_index(table[k]));
+        let t = text(s, octets::from_word(table[k]));
         uses[k] = uses_of(&classes, t);
         k += 1;
     }

@@ -14,7 +14,7 @@ pub use crate::memberships::members;
 pub use crate::trigger_rows::rows;
 use cells::number;
 use cells::priority;
-use cells::wide;
+use octets::from_byte;
 
 // What reading a membership gives: its row and its group, or the refusal.
 pub enum Pair {
@@ -61,11 +61,11 @@ pub fn read_row(s: &[u8], at: usize) -> Row
     ensures { λ r. ⌜ r ≡ row-numbers (now (s .entry)) at ⌝ }
 {
     Row {
-        negated: wide(s[at]),
-        kind: wide(s[at + 1]),
+        negated: from_byte(s[at]),
+        kind: from_byte(s[at + 1]),
         first: number(s, at + 2),
         second: number(s, at + 4),
-        set: wide(s[at + 6]),
+        set: from_byte(s[at + 6]),
     }
 }
 
@@ -84,7 +84,7 @@ fn read_trigger(s: &[u8], at: usize) -> Trigger
     ensures { λ r. ⌜ r ≡ trigger-numbers (now (s .entry)) at ⌝ }
 {
     Trigger {
-        form: wide(s[at]),
+        form: from_byte(s[at]),
         first: number(s, at + 1),
         count: number(s, at + 3),
     }
@@ -96,10 +96,10 @@ pub fn read_criterion(s: &[u8], at: usize) -> Criterion
 {
     Criterion {
         priority: priority(s, at),
-        part: wide(s[at + 4]),
+        part: from_byte(s[at + 4]),
         trigger: read_trigger(s, at + 5),
         server: number(s, at + 10),
-        handling: wide(s[at + 12]),
+        handling: from_byte(s[at + 12]),
         info: number(s, at + 13),
     }
 }

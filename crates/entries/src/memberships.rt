@@ -89,7 +89,7 @@ pub fn all_placed(counts: &[u16; 2048], rows: usize, start: usize) -> Field
     let mut at = start;
     let mut k: usize = 0;
     while k < rows {
-        let c = octets::as_index(counts[k]);
+        let c = octets::from_word(counts[k]);
         if c < 1 {
             return Field::Refused {
                 number: 4,

@@ -17,8 +17,9 @@ use Rattle.octets.proofs.Bits.{shl-one, Mask, mask-none, mask-skip, mask-add}
 use Rattle.profile.specs.Image.{Member, Criterion, Profile}
 use Rattle.request.specs.Request.{Request}
 use Rattle.rows.specs.declared.Given.{Given}
+use Rattle.trials.specs.Trying.{most-trials}
 use Rattle.trials.specs.declared.Verdict.{Verdict}
-use Rattle.fitting.specs.Fitting.{by-form, cnf, dnf, part-fits, memberships, fits-at, trigger-fits, criterion-fits, trials-at, trials-from, criterion-trials}
+use Rattle.fitting.specs.Fitting.{by-form, cnf, dnf, part-fits, memberships, trigger-fits, criterion-fits, trials-at, trials-from, criterion-trials}
 use Rattle.fitting.specs.Trigger.{of-rows, marked, fits-by}
 use Rattle.fitting.specs.Rowwise.{fits-nth, trials-nth, trigger-of, criterion-of, trials-of, tried-of, TriedRow, TriedRows, Considered}
 use Rattle.fitting.specs.declared.Marks.{Marks}
@@ -77,7 +78,7 @@ pub record Marking (fits : ℕ → Bool) (trials : ℕ → ℕ) (first n i mask 
   pub inside : i ≤ n
   pub marks : Mask (λ j. fits (first + j)) i mask
   pub tries : t + trials-of trials (first + i) (n - i) ≡ trials-of trials first n
-  pub few : t ≤ i * 262143
+  pub few : t ≤ i * most-trials
 
 module _ (fits : ℕ → Bool) (trials : ℕ → ℕ) (first n : ℕ) where
   pub marking-first : Marking fits trials first n 0 0 0

@@ -1,10 +1,10 @@
 // The calls as C makes them: numbers and bytes in, numbers out. Nothing but passing on.
-ghost use mathlib.Core.Path.{_≡_};
-ghost use Rattle.ifc.specs.Exports.{session-of, CheckTo, OpenTo, ReportTo, AdvanceTo, ListTo, ServerTo, InformationTo, ShowTo, as-number};
+ghost use Rattle.ifc.specs.Exports.{session-of, CheckTo, OpenTo, ReportTo, AdvanceTo, ListTo, ServerTo, InformationTo, ShowTo};
 use listing::list as list_into;
 use lookups::check;
 use lookups::information;
 use lookups::server;
+use octets::one_if;
 use route::advance;
 use rows::Given;
 use session::Session;
@@ -144,12 +144,6 @@ pub extern "C" fn ifc_server(
 }
 
 // Yes and no as C has them.
-fn one_if(b: bool) -> u32
-    ensures { λ r. ⌜ r ≡ as-number b ⌝ }
-{
-    if b { 1 } else { 0 }
-}
-
 #[no_mangle]
 pub extern "C" fn ifc_information(
     image: &[u8],

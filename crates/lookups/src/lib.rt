@@ -60,7 +60,7 @@ fn stored_part(s: &[u8], table: &[u16; 1024], n: usize, i: usize) -> Lookup
             length: 0,
         };
     }
-    let o = octets::as_index(table[i]);
+    let o = octets::from_word(table[i]);
     let n = cells::number(s, o);
     Lookup {
         refusal: 0,

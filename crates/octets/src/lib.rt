@@ -1,8 +1,17 @@
-// Bytes: their classes, their case forms, and equal bytes.
+// Bytes: their classes, their case forms, and equal bytes; numbers in other widths.
 ghost use mathlib.Core.Path.{_≡_};
 ghost use lib.ListN.{getD};
 ghost use Rattle.octets.specs.Bytes.{class-of, Classes, lower, same-any-case, token};
 ghost use Rattle.octets.specs.Lists.{same};
+
+mod widths;
+
+pub use crate::widths::from_byte;
+pub use crate::widths::from_long;
+pub use crate::widths::from_word;
+pub use crate::widths::one_if;
+pub use crate::widths::to_byte;
+pub use crate::widths::to_long;
 
 // "a table of 256 byte classes, one for each byte" (document 01): 1 token, 2 SP or HTAB, 3 any other of 33..126, 4 128 and up, 0 the rest.
 const CLASSES: [u8; 256] = [
@@ -287,13 +296,6 @@ pub fn byte_at(s: &[u8], i: usize) -> u8
         return s[i];
     }
     0
-}
-
-// A place that is kept in two bytes, as an index.
-pub fn as_index(w: u16) -> usize
-    ensures { λ r. ⌜ r ≡ w ⌝ }
-{
-    w as usize
 }
 
 pub fn lower_of(b: u8) -> u8

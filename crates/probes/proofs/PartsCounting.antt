@@ -102,7 +102,7 @@ module _ (s starts colons starts′ colons′ : List ℕ) (r : Reading) (k : Rea
     pub rest-short : length rest ≤ 65535
     rest-short = omega (arith, ap length rest-is, length-drop (p .lines) s, short s starts′ colons′ p places-read)
 
-    pub fields-low : p .fields ≤ 65535
+    pub fields-low : p .fields < 4294967296
     fields-low =
         omega (
           arith,

@@ -1,14 +1,17 @@
 // Two calls over a block of lines, so that tests and measures reach prepared patterns from C.
 ghost use mathlib.Core.Path.{_≡_};
-ghost use mathlib.Core.Bool.{not};
-ghost use Prim.Native.Nat.{_+_, _≤_, _%_};
+ghost use mathlib.Core.Bool.{Bool, not};
+ghost use mathlib.Core.List.{List};
+ghost use Prim.Native.Nat.{ℕ, _+_, _≤_, _%_};
 ghost use lib.Dec.{eqb};
 ghost use lib.ListN.{length, drop};
-ghost use Rattle.octets.specs.Lists.{pick};
+ghost use Rattle.machine.specs.Machine.{Closed};
 ghost use Rattle.pattern.specs.Answers.{meets-text};
 ghost use Rattle.pattern.specs.Prepared.{Ready};
 ghost use Rattle.probes.specs.Lines.{LinesTo, matched, matching, before-lf};
 use machine::Shape;
+use octets::from_long;
+use octets::one_if;
 use pattern::first_match;
 use pattern::is_loaded;
 use pattern::load;
@@ -29,30 +32,17 @@ fn line_end(block: &[u8], from: usize) -> usize
     i
 }
 
-fn one_if(b: bool) -> usize
-    ensures { λ r. ⌜ r ≡ pick b 1 0 ⌝ }
-{
-    if b { 1 } else { 0 }
-}
-
 // The lines that the prepared pattern matches.
-fn count(
-    h: Shape,
-    sets: &[[u64; 4]; 60],
-    before: &[u64; 60],
-    p: &[u8],
-    fold: bool,
-    block: &[u8],
-) -> usize
-    requires { ⌜ Ready fold (now p) h (now sets) (now before) ⌝ }
-    ensures { λ r. ⌜ r ≡ matched fold (now (p .entry)) (now (block .entry)) ⌝ }
+fn count(h: Shape, sets: &[[u64; 4]; 60], before: &[u64; 60], block: &[u8]) -> usize
+    requires { ⌜ Closed h (now before) ⌝ }
+    ensures { λ r. ⌜ ((fold : Bool) (p : List ℕ) → Ready fold p h (now (sets .entry)) (now (before .entry)) → r ≡ matched fold p (now (block .entry))) ⌝ }
 {
     let mut n: usize = 0;
     let mut at: usize = 0;
     while at <= block.len() {
         let end = line_end(block, at);
         let m = test(h, sets, before, &block[at..end]);
-        n += one_if(m);
+        n += from_long(one_if(m));
         at = end + 1;
     }
     n
@@ -91,7 +81,7 @@ fn count_patterns(
     while at <= block.len() {
         let end = line_end(block, at);
         let m = read_and_test(&block[at..end], fold, text, sets, before);
-        n += one_if(m);
+        n += from_long(one_if(m));
         at = end + 1;
     }
     n
@@ -110,7 +100,7 @@ pub extern "C" fn pattern_lines(pattern: &[u8], fold: u32, block: &[u8], met: &m
         *met = 0;
         return 5;
     }
-    let n = count(h, &sets, &before, pattern, fold != 0, block);
+    let n = count(h, &sets, &before, block);
     *met = (n % 4294967296) as u32;
     0
 }

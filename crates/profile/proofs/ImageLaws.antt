@@ -14,7 +14,7 @@ use Rattle.entries.specs.declared.Row.{Row}
 use Rattle.entries.specs.declared.Member.{Member}
 use Rattle.cells.specs.Answers.{Table, field-out, Tabled, Filled}
 use Rattle.entries.specs.Answers.{check-out, Counted}
-use Rattle.profile.specs.Answers.{opening, criteria-on, members-on, rows-on, judged-out, refusal-of, LaidAs, Laid}
+use Rattle.profile.specs.Answers.{opening, criteria-on, members-on, rows-on, judged-out, LaidAs, Laid}
 use Rattle.profile.specs.Decoded.{layout, laid-criteria, laid-members, laid-rows}
 use Rattle.profile.specs.declared.Layout.{Layout}
 use Rattle.cells.specs.declared.Field.{Field}
@@ -23,12 +23,6 @@ use Rattle.profile.specs.declared.Judged.{Judged}
 use Rattle.cells.proofs.Laws.{is, refused, must-inv, bind-inv, counted-inv}
 use Rattle.cells.proofs.Many.{ends-bad}
 use Rattle.entries.proofs.Decode.{rows-are, members-are, criteria-are}
-
-pub refusal-is : (f : Field) (m q : ℕ) → f ≡ Refused m q → Judged.Refused m q ≡ refusal-of f
-refusal-is f m q g = sym (ap refusal-of g)
-
-refuse : (s table : List ℕ) (r : Judged) (f : Field) (m q : ℕ) → r ≡ refusal-of f → f ≡ Refused m q → judged-out r s table ≡ bad m q
-refuse s table r f m q e g = ap (λ (x : Judged). judged-out x s table) (e ∙ ap refusal-of g)
 
 module _ (s : List ℕ) where
   pub opening-long : 32768 < length s → bad 1 0 ≡ opening s
@@ -57,19 +51,19 @@ opening-inv s n e =
     let k = must-inv (eqb v 1) 4 0 _ n r in
     (leb-true (length s) 32768 (h .0), counted-inv s 1 1024 n (k .1) .1)
 
-module _ (s table : List ℕ) (strs : List (List ℕ)) (rows : List Row) (members : List Member) (n₂ at : ℕ) where
+module _ (s : List ℕ) (strs : List (List ℕ)) (rows : List Row) (members : List Member) (n₂ at : ℕ) where
   abbrev Here : Out Profile → Type 0
   Here o = o ≡ criteria-on s strs rows members n₂ at
 
   module _ (f : Field) (e : field-out f ≡ counted s at 64) where
-    pub crit-1 : (m q : ℕ) → f ≡ Refused m q → (r : Judged) → r ≡ refusal-of f → Here (judged-out r s table)
+    pub crit-1 : (m q : ℕ) → f ≡ Refused m q → Here (bad m q)
     unfolding criteria-on
-    crit-1 m q g r er = refuse s table r f m q er g ∙ rw (refused e g)
+    crit-1 m q g = rw (refused e g)
 
     module _ (n : ℕ) (g : f ≡ Is n) (f₂ : Field) (e₂ : field-out f₂ ≡ ends (reading-criteria s strs n₂ n (at + 2))) where
-      pub crit-2 : (m q : ℕ) → f₂ ≡ Refused m q → (r : Judged) → r ≡ refusal-of f₂ → Here (judged-out r s table)
+      pub crit-2 : (m q : ℕ) → f₂ ≡ Refused m q → Here (bad m q)
       unfolding criteria-on
-      crit-2 m q g₂ r er = refuse s table r f₂ m q er g₂ ∙ rw (is e g, ends-bad (reading-criteria s strs n₂ n (at + 2)) m q (refused e₂ g₂))
+      crit-2 m q g₂ = rw (is e g, ends-bad (reading-criteria s strs n₂ n (at + 2)) m q (refused e₂ g₂))
 
       module _ (end : ℕ) (g₂ : f₂ ≡ Is end) where
         pub crit-3 : end ≡ length s → Here (good (record { strings = strs; rows = rows; members = members; criteria = spaced (criterion-numbers s) 15 (at + 2) n }))
@@ -87,21 +81,21 @@ placed-same f g (suc n) r at h =
     let ih = placed-same f g n (r + 1) (at + 7) (λ k l. h k (omega arith)) in
     rw (h r (omega arith), ih)
 
-module _ (s table : List ℕ) (strs : List (List ℕ)) (rows : List Row) (n r₂ at : ℕ) where
+module _ (s : List ℕ) (strs : List (List ℕ)) (rows : List Row) (n r₂ at : ℕ) where
   abbrev InMembers : Out Profile → Type 0
   InMembers o = o ≡ members-on s strs rows n r₂ at
 
   module _ (f : Field) (e : field-out f ≡ counted s at 16384) where
-    pub mem-1 : (m q : ℕ) → f ≡ Refused m q → (r : Judged) → r ≡ refusal-of f → InMembers (judged-out r s table)
+    pub mem-1 : (m q : ℕ) → f ≡ Refused m q → InMembers (bad m q)
     unfolding members-on
-    mem-1 m q g r er = refuse s table r f m q er g ∙ rw (refused e g)
+    mem-1 m q g = rw (refused e g)
 
     module _ (k : ℕ) (g : f ≡ Is k) (f₂ : Field) (counts : List ℕ) (e₂ : Counted f₂ s n k (at + 2) counts) where
-      pub mem-2 : (m q : ℕ) → f₂ ≡ Refused m q → (r : Judged) → r ≡ refusal-of f₂ → InMembers (judged-out r s table)
+      pub mem-2 : (m q : ℕ) → f₂ ≡ Refused m q → InMembers (bad m q)
       unfolding members-on
-      mem-2 m q g₂ r er =
+      mem-2 m q g₂ =
           let b : reading-members s n k (at + 2) ≡ bad m q = subst (λ (x : Field). Counted x s n k (at + 2) counts) g₂ e₂ in
-          refuse s table r f₂ m q er g₂ ∙ rw (is e g, b)
+          rw (is e g, b)
 
       module _ (next : ℕ) (g₂ : f₂ ≡ Is next) where
         read : Counted (Is next) s n k (at + 2) counts
@@ -111,32 +105,32 @@ module _ (s table : List ℕ) (strs : List (List ℕ)) (rows : List Row) (n r₂
           tallied : check-out h ≡ placed (has (read .0)) n 0 r₂
           tallied = e₃ ∙ placed-same (λ j. getD counts j 0) (has (read .0)) n 0 r₂ (λ j l. read .2 j (omega arith))
 
-          pub mem-3 : (m q : ℕ) → h ≡ Refused m q → (r : Judged) → r ≡ refusal-of h → InMembers (judged-out r s table)
+          pub mem-3 : (m q : ℕ) → h ≡ Refused m q → InMembers (bad m q)
           unfolding members-on
-          mem-3 m q g₃ r er = refuse s table r h m q er g₃ ∙ rw (is e g, read .1, sym tallied ∙ ap check-out g₃)
+          mem-3 m q g₃ = rw (is e g, read .1, sym tallied ∙ ap check-out g₃)
 
-          pub mem-4 : (v : ℕ) → h ≡ Is v → (r : Judged) → judged-out r s table ≡ criteria-on s strs rows (spaced (member-numbers s) 4 (at + 2) k) n next → InMembers (judged-out r s table)
+          pub mem-4 : (v : ℕ) → h ≡ Is v → (o : Out Profile) → o ≡ criteria-on s strs rows (spaced (member-numbers s) 4 (at + 2) k) n next → InMembers o
           unfolding members-on
-          mem-4 v g₃ r er = er ∙ rw (is e g, read .1, sym tallied ∙ ap check-out g₃, members-are s n k (at + 2) (read .0) next (read .1) .0)
+          mem-4 v g₃ o er = er ∙ rw (is e g, read .1, sym tallied ∙ ap check-out g₃, members-are s n k (at + 2) (read .0) next (read .1) .0)
 
-module _ (s table : List ℕ) (strs : List (List ℕ)) (at : ℕ) where
+module _ (s : List ℕ) (strs : List (List ℕ)) (at : ℕ) where
   abbrev InRows : Out Profile → Type 0
   InRows o = o ≡ rows-on s strs at
 
   module _ (f : Field) (e : field-out f ≡ counted s at 2048) where
-    pub rows-f : (m q : ℕ) → f ≡ Refused m q → (r : Judged) → r ≡ refusal-of f → InRows (judged-out r s table)
+    pub rows-f : (m q : ℕ) → f ≡ Refused m q → InRows (bad m q)
     unfolding rows-on
-    rows-f m q g r er = refuse s table r f m q er g ∙ rw (refused e g)
+    rows-f m q g = rw (refused e g)
 
     module _ (n : ℕ) (g : f ≡ Is n) (f₂ : Field) (e₂ : field-out f₂ ≡ ends (reading-rows s strs n (at + 2))) where
-      pub rows-g : (m q : ℕ) → f₂ ≡ Refused m q → (r : Judged) → r ≡ refusal-of f₂ → InRows (judged-out r s table)
+      pub rows-g : (m q : ℕ) → f₂ ≡ Refused m q → InRows (bad m q)
       unfolding rows-on
-      rows-g m q g₂ r er = refuse s table r f₂ m q er g₂ ∙ rw (is e g, ends-bad (reading-rows s strs n (at + 2)) m q (refused e₂ g₂))
+      rows-g m q g₂ = rw (is e g, ends-bad (reading-rows s strs n (at + 2)) m q (refused e₂ g₂))
 
       module _ (next : ℕ) (g₂ : f₂ ≡ Is next) where
-        pub rows-h : (r : Judged) → judged-out r s table ≡ members-on s strs (spaced (row-numbers s) 7 (at + 2) n) n (at + 2) next → InRows (judged-out r s table)
+        pub rows-h : (o : Out Profile) → o ≡ members-on s strs (spaced (row-numbers s) 7 (at + 2) n) n (at + 2) next → InRows o
         unfolding rows-on
-        rows-h r er = er ∙ rw (is e g, rows-are s strs n (at + 2) next (is e₂ g₂) .0)
+        rows-h o er = er ∙ rw (is e g, rows-are s strs n (at + 2) next (is e₂ g₂) .0)
 
 then-assoc : {A B : Type 0} (o : Out Unit) (r : Out A) (k : A → Out B) → ((o >> r) >>= k) ≡ (o >> (r >>= k))
 then-assoc (good u) r k = refl
@@ -160,17 +154,17 @@ judge-opens s = sym (then-assoc (must (leb (length s) 32768) 1 0) (u8 s 0 >>= λ
     (bind-assoc (u8 s 0) (λ v. must (eqb v 1) 4 0 >> counted s 1 1024) (strings-on s) ∙ inner (u8 s 0) (λ v. must (eqb v 1) 4 0) (counted s 1 1024) (strings-on s)))
 
 module _ (s : List ℕ) (f : Field) (e : field-out f ≡ opening s) where
-  pub image-f : (table : List ℕ) (m q : ℕ) → f ≡ Refused m q → (r : Judged) → r ≡ refusal-of f → judged-out r s table ≡ judge s
-  image-f table m q g r er = refuse s table r f m q er g ∙ sym (judge-opens s ∙ rw (refused e g))
+  pub image-f : (m q : ℕ) → f ≡ Refused m q → bad m q ≡ judge s
+  image-f m q g = sym (judge-opens s ∙ rw (refused e g))
 
   module _ (n : ℕ) (g : f ≡ Is n) (f₂ : Field) (table : List ℕ) (e₂ : Tabled f₂ s n table) where
     whole-is : judge s ≡ strings-on s n
     whole-is = judge-opens s ∙ rw (is e g)
 
-    pub image-g : (m q : ℕ) → f₂ ≡ Refused m q → (r : Judged) → r ≡ refusal-of f₂ → judged-out r s table ≡ judge s
-    image-g m q g₂ r er =
+    pub image-g : (m q : ℕ) → f₂ ≡ Refused m q → bad m q ≡ judge s
+    image-g m q g₂ =
         let b : reading-strings s n 3 ≡ bad m q = subst (λ (x : Field). Tabled x s n table) g₂ e₂ in
-        refuse s table r f₂ m q er g₂ ∙ sym (whole-is ∙ rw b)
+        sym (whole-is ∙ rw b)
 
     module _ (at : ℕ) (g₂ : f₂ ≡ Is at) where
       image-table : Tabled (Is at) s n table
@@ -188,9 +182,6 @@ tabled-is s n table f at h e g =
     (t .2, record { count = h; long = t .3; inside = t .1 })
 
 -- ---- where the sections lie
-
-pub laid-refused : (z : Layout) (r : Judged) (f : Field) (m q : ℕ) → r ≡ refusal-of f → f ≡ Refused m q → LaidAs r z
-laid-refused z r f m q e g = subst (λ (x : Judged). LaidAs x z) (sym (e ∙ ap refusal-of g)) (record { says = tt })
 
 -- the layout with its last section, from the edition b that was read and the number of criteria n
 abbrev ended : Layout → ℕ → ℕ → ℕ → Layout
@@ -219,9 +210,6 @@ laid-on-members s r strings rows n at m next h e f =
 pub laid-on-rows : (s : List ℕ) (r : Judged) (strings at n next : ℕ) → LaidAs r (laid-members s strings (at + 2) n next) → n ≡ word s at → next ≡ at + 2 + 7 * n → LaidAs r (laid-rows s strings at)
 laid-on-rows s r strings at n next h e f =
     subst (λ (k : ℕ). LaidAs r (laid-members s strings (at + 2) k (at + 2 + 7 * k))) e (subst (λ (k : ℕ). LaidAs r (laid-members s strings (at + 2) n k)) f h)
-
-pub laid-whole-refused : (s before table : List ℕ) (r : Judged) (f : Field) (m q : ℕ) → r ≡ refusal-of f → f ≡ Refused m q → Laid r s before table
-laid-whole-refused s before table r f m q e g = subst (λ (x : Judged). Laid x s before table) (sym (e ∙ ap refusal-of g)) tt
 
 pub laid-whole : (s before table : List ℕ) (r : Judged) (n at : ℕ) → LaidAs r (laid-rows s n at) → n ≡ word s 1 → (table ≡ offsets s n 3 ++ drop n before) × (at ≡ past s n 3) → Laid r s before table
 unfolding layout

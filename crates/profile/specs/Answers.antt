@@ -9,8 +9,6 @@ use Rattle.cells.specs.Places.{u8, word, counted, texts, offsets}
 use Rattle.entries.specs.Places.{reading-rows, reading-members, reading-criteria, placed, has, spaced, row-numbers, member-numbers, criterion-numbers}
 use Rattle.entries.specs.declared.Row.{Row}
 use Rattle.entries.specs.declared.Member.{Member}
-use Rattle.cells.specs.declared.Field.{Field}
-use Rattle.cells.specs.declared.Field.the-variants.{Is, Refused}
 use Rattle.profile.specs.Places.{Profile}
 use Rattle.profile.specs.Decoded.{layout}
 use Rattle.profile.specs.declared.Layout.{Layout}
@@ -58,11 +56,6 @@ profile-at s table y = record {
 abbrev pub judged-out : Judged → List ℕ → List ℕ → Out Profile
 judged-out (Accepted y) s table = good (profile-at s table y)
 judged-out (Judged.Refused m p) s table = bad m p
-
--- a field's refusal is the image's
-abbrev pub refusal-of : Field → Judged
-refusal-of (Is v) = Judged.Refused 0 0
-refusal-of (Refused m p) = Judged.Refused m p
 
 -- the layout of an accepted image is z
 abbrev pub laid-as : Judged → Layout → Type 0

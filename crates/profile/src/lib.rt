@@ -10,14 +10,13 @@ ghost use Rattle.profile.specs.Image.{refused};
 ghost use Rattle.profile.specs.Kept.{kept, Judges};
 ghost use Rattle.profile.specs.Decoded.{stored-in, string-of, laid-criteria, laid-members, laid-rows};
 ghost use Rattle.cells.specs.Answers.{field-out, Table, Known};
-ghost use Rattle.profile.specs.Answers.{LaidAs, Laid, opening, criteria-on, members-on, rows-on, judged-out, refusal-of};
+ghost use Rattle.profile.specs.Answers.{LaidAs, Laid, opening, criteria-on, members-on, rows-on, judged-out};
 use cells::Field;
 use cells::byte_at;
 use cells::count_at;
 use cells::judge_strings;
 use cells::strings;
 use cells::text;
-use cells::wide;
 use entries::all_placed;
 use entries::criteria;
 use entries::members;
@@ -40,18 +39,6 @@ pub struct Layout {
 pub enum Judged {
     Accepted(Layout),
     Refused { number: u8, place: usize },
-}
-
-fn refusal(f: Field) -> Judged
-    ensures { λ r. ⌜ r ≡ refusal-of f ⌝ }
-{
-    match f {
-        Field::Is(_) => Judged::Refused {
-            number: 0,
-            place: 0,
-        },
-        Field::Refused { number, place } => Judged::Refused { number, place },
-    }
 }
 
 // The size, the edition and the number of strings.
@@ -84,17 +71,17 @@ fn from_criteria(s: &[u8], table: &[u16; 1024], uses: &[u8; 1024], y: Layout, at
     ensures { λ r. ⌜ judged-out r (now (s .entry)) (now (table .entry)) ≡ criteria-on (now (s .entry)) (texts (now (s .entry)) (y .strings) (now (table .entry))) (spaced (row-numbers (now (s .entry))) 7 (y .rows) (y .«row_count»)) (spaced (member-numbers (now (s .entry))) 4 (y .members) (y .«member_count»)) (y .«row_count») at ⌝ }
     ensures laid { λ r. ⌜ LaidAs r (laid-criteria (now (s .entry)) y at) ⌝ }
 {
-    let f = count_at(s, at, 64);
-    let Field::Is(n) = f else {
-        return refusal(f);
+    let n = match count_at(s, at, 64) {
+        Field::Is(n) => n,
+        Field::Refused { number, place } => return Judged::Refused { number, place },
     };
-    let g = criteria(s, table, uses, y.strings, y.row_count, n, at + 2);
-    let Field::Is(end) = g else {
-        return refusal(g);
+    let end = match criteria(s, table, uses, y.strings, y.row_count, n, at + 2) {
+        Field::Is(end) => end,
+        Field::Refused { number, place } => return Judged::Refused { number, place },
     };
     if end == s.len() {
         let first = octets::byte_at(s, 0);
-        let edition = wide(first);
+        let edition = octets::from_byte(first);
         Judged::Accepted(Layout {
             edition,
             strings: y.strings,
@@ -127,19 +114,19 @@ fn from_members(
     ensures { λ r. ⌜ judged-out r (now (s .entry)) (now (table .entry)) ≡ members-on (now (s .entry)) (texts (now (s .entry)) strings (now (table .entry))) (spaced (row-numbers (now (s .entry))) 7 rows n) n rows at ⌝ }
     ensures laid { λ r. ⌜ LaidAs r (laid-members (now (s .entry)) strings rows n at) ⌝ }
 {
-    let f = count_at(s, at, 16384);
-    let Field::Is(m) = f else {
-        return refusal(f);
+    let m = match count_at(s, at, 16384) {
+        Field::Is(m) => m,
+        Field::Refused { number, place } => return Judged::Refused { number, place },
     };
     let mut counts = [0u16; 2048];
-    let g = members(s, n, m, at + 2, &mut counts);
-    let Field::Is(next) = g else {
-        return refusal(g);
+    let next = match members(s, n, m, at + 2, &mut counts) {
+        Field::Is(next) => next,
+        Field::Refused { number, place } => return Judged::Refused { number, place },
     };
     let h = all_placed(&counts, n, rows);
-    let Field::Is(_) = h else {
-        return refusal(h);
-    };
+    if let Field::Refused { number, place } = h {
+        return Judged::Refused { number, place };
+    }
     let y = Layout {
         edition: 0,
         strings,
@@ -159,15 +146,15 @@ fn from_rows(s: &[u8], table: &[u16; 1024], strings: usize, at: usize) -> Judged
     ensures { λ r. ⌜ judged-out r (now (s .entry)) (now (table .entry)) ≡ rows-on (now (s .entry)) (texts (now (s .entry)) strings (now (table .entry))) at ⌝ }
     ensures laid { λ r. ⌜ LaidAs r (laid-rows (now (s .entry)) strings at) ⌝ }
 {
-    let f = count_at(s, at, 2048);
-    let Field::Is(n) = f else {
-        return refusal(f);
+    let n = match count_at(s, at, 2048) {
+        Field::Is(n) => n,
+        Field::Refused { number, place } => return Judged::Refused { number, place },
     };
     let mut uses = [0u8; 1024];
     judge_strings(s, table, strings, &mut uses);
-    let g = rows(s, table, &uses, strings, n, at + 2);
-    let Field::Is(next) = g else {
-        return refusal(g);
+    let next = match rows(s, table, &uses, strings, n, at + 2) {
+        Field::Is(next) => next,
+        Field::Refused { number, place } => return Judged::Refused { number, place },
     };
     from_members(s, table, &uses, strings, at + 2, n, next)
 }
@@ -178,13 +165,13 @@ fn judge_image(s: &[u8], table: &mut [u16; 1024]) -> Judged
     ensures { λ r. ⌜ judged-out r (now (s .entry)) (now (table .exit)) ≡ judge (now (s .entry)) ⌝ }
     ensures laid { λ r. ⌜ Laid r (now (s .entry)) (now (table .entry)) (now (table .exit)) ⌝ }
 {
-    let f = open_image(s);
-    let Field::Is(n) = f else {
-        return refusal(f);
+    let n = match open_image(s) {
+        Field::Is(n) => n,
+        Field::Refused { number, place } => return Judged::Refused { number, place },
     };
-    let g = strings(s, n, table);
-    let Field::Is(at) = g else {
-        return refusal(g);
+    let at = match strings(s, n, table) {
+        Field::Is(at) => at,
+        Field::Refused { number, place } => return Judged::Refused { number, place },
     };
     from_rows(s, table, n, at)
 }
@@ -243,5 +230,5 @@ pub fn string_bytes<'a, 'b>(s: &'a [u8], table: &'b [u16; 1024], n: usize, i: us
     if n <= i {
         return &s[..0];
     }
-    text(s, octets::as_index(table[i]))
+    text(s, octets::from_word(table[i]))
 }

@@ -151,7 +151,7 @@ fn field_end(starts: &[u16], head: usize, fields: usize, i: usize) -> usize
     ensures { λ r. ⌜ r ≡ pick (ltb (i + 1) fields) (getD (now (starts .entry)) (i + 1) 0 - 2) head ⌝ }
 {
     if i + 1 < fields {
-        return octets::as_index(starts[i + 1]) - 2;
+        return octets::from_word(starts[i + 1]) - 2;
     }
     head
 }
@@ -176,8 +176,8 @@ pub(crate) fn parts_at(
     requires { ⌜ Fielded (now s) (now starts) (now colons) head fields × (i < fields) ⌝ }
     ensures { λ r. ⌜ r ≡ field-parts (head-of (now (s .entry))) i ⌝ }
 {
-    let a = octets::as_index(starts[i]);
-    let k = octets::as_index(colons[i]);
+    let a = octets::from_word(starts[i]);
+    let k = octets::from_word(colons[i]);
     let n = cuts::trimmed_end(&s[a..k]);
     let e = field_end(starts, head, fields, i);
     FieldParts {

@@ -28,7 +28,7 @@ use Rattle.request.specs.Places.{request-of, Placed}
 use Rattle.rows.specs.Rows.{registration-fits, test-fits, test-trials, row-fits, row-trials}
 use Rattle.rows.specs.declared.Given.{Given}
 use Rattle.rows.specs.Tried.{Spare, Tried}
-use Rattle.trials.specs.Trying.{field-row, line-row, all-rows}
+use Rattle.trials.specs.Trying.{field-row, line-row, all-rows, most-trials}
 use Rattle.rows.specs.Trying.{one-trial, patterns-row, test-row}
 use Rattle.request.specs.declared.Places.{Places}
 use Rattle.trials.specs.declared.Verdict.{Verdict}
@@ -79,7 +79,7 @@ patterns-head s b h with c e v ev = ev ∙ sym (ap (λ (t : Bool). patterns-row 
 
 -- ---- the kinds
 
-pub single-few : (b : Bool) (v : Verdict) → v ≡ one-trial b → v .trials ≤ 262143
+pub single-few : (b : Bool) (v : Verdict) → v ≡ one-trial b → v .trials ≤ most-trials
 single-few b v e = let n : v .trials ≡ 1 = ap (λ (u : Verdict). u .trials) e in omega arith
 
 -- a row's test, by four tests of its kind
@@ -163,7 +163,7 @@ module _ (s table : List ℕ) (y : Layout) (stands : Standing s table y) (k : �
   pub kth-matchable : k < y .«row_count» → Matchable (stored-in s (y .strings) table) r
   kth-matchable h = subst (λ (strs : List Stored). Matchable strs r) (sym (strings-in s table y stands)) (subst (Matchable _) (sym er) (row-matchable s table y stands k h))
 
-  module _ (q : Request) (g : Given) (v : Verdict) (ev : v ≡ test-row q g (test-from (stored-in s (y .strings) table) r)) (few : v .trials ≤ 262143) where
+  module _ (q : Request) (g : Given) (v : Verdict) (ev : v ≡ test-row q g (test-from (stored-in s (y .strings) table) r)) (few : v .trials ≤ most-trials) where
     kth-tested : v ≡ test-row q g (nth-row s y k .test)
     unfolding row-from
     kth-tested = ev ∙ ap₂ (λ (strs : List Stored) (x : Row). test-row q g (test-from strs x)) (strings-in s table y stands) er

@@ -11,6 +11,7 @@ use Rattle.pattern.specs.Matching.{written-matches, name-matches}
 use Rattle.profile.specs.Image.{Test, request-uri, method, header, session-case, description, Row}
 use Rattle.request.specs.Request.{Request, request-lines}
 use Rattle.request.proofs.Few.{weight, Small, body-lines-few}
+use Rattle.trials.specs.Trying.{most-trials}
 use Rattle.rows.specs.Rows.{content-trials, field-trials, line-trials, test-trials, row-trials}
 
 content-le : (c : Option Pattern) (b : Bool) (n : ℕ) → content-trials c b n ≤ n
@@ -18,7 +19,7 @@ content-le none b n = zero-le
 content-le (some c) true n = le-refl n
 content-le (some c) false n = zero-le
 
-test-le : (q : Request) → Small q → (t : Test) → test-trials q t ≤ 262143
+test-le : (q : Request) → Small q → (t : Test) → test-trials q t ≤ most-trials
 unfolding test-trials
 test-le q h (request-uri u) = omega arith
 test-le q h (method m set) = omega arith
@@ -38,6 +39,6 @@ test-le q h (description p c) =
     )
 
 -- a row's trials
-pub row-le : (q : Request) → Small q → (r : Row) → row-trials q r ≤ 262143
+pub row-le : (q : Request) → Small q → (r : Row) → row-trials q r ≤ most-trials
 unfolding row-trials
 row-le q h r = test-le q h (r .test)

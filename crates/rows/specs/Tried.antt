@@ -5,6 +5,7 @@ use Prim.Native.Nat.{ℕ, _≤_}
 use lib.ListN.{length}
 use Rattle.profile.specs.Image.{Row}
 use Rattle.request.specs.Request.{Request}
+use Rattle.trials.specs.Trying.{most-trials}
 use Rattle.rows.specs.Rows.{row-fits, row-trials}
 use Rattle.rows.specs.declared.Given.{Given}
 use Rattle.trials.specs.declared.Verdict.{Verdict}
@@ -25,4 +26,4 @@ given case registration = record { case = case; registration = registration }
 pub record Tried (q : Request) (g : Given) (r : Row) (v : Verdict) : Type 0 where
   pub fit : v .fits ≡ row-fits q g r
   pub tried : v .trials ≡ row-trials q r
-  pub few : v .trials ≤ 262143
+  pub few : v .trials ≤ most-trials

@@ -13,7 +13,7 @@ use Rattle.request.specs.Places.{head-of, field-parts, request-of, Placed}
 use Rattle.request.specs.Request.{Field}
 use Rattle.request.specs.declared.FieldParts.{FieldParts}
 use Rattle.request.proofs.Indexing.{FieldSays}
-use Rattle.trials.specs.Trying.{item-row, field-row, all-rows}
+use Rattle.trials.specs.Trying.{item-row, field-row, all-rows, most-trials}
 use Rattle.request.specs.declared.Places.{Places}
 use Rattle.trials.specs.declared.Verdict.{Verdict}
 use Rattle.trials.proofs.Items.{fields-le}
@@ -29,7 +29,7 @@ module _ (h : List ℕ) (with : Bool) (c s : List ℕ) where
   pub fielding-first : Fielding h with c s 0 false 0
   fielding-first = record { sweep = swept-first (λ f. field-row h with c f .fits) (λ f. field-row h with c f .trials) (request-of s .fields) }
 
-  pub fielding-few : (i : ℕ) (fits : Bool) (trials : ℕ) → Fielding h with c s i fits trials → trials ≤ 262143
+  pub fielding-few : (i : ℕ) (fits : Bool) (trials : ℕ) → Fielding h with c s i fits trials → trials ≤ most-trials
   fielding-few i fits trials w =
       omega (arith, w .sweep .tried, fields-le h with c (request-of s .fields), request-of-small s .fields-le)
 

@@ -12,7 +12,7 @@ use Rattle.contents.specs.declared.BodyLine.{BodyLine}
 use Rattle.contents.specs.declared.BodyLine.the-variants.{Typed, Other, Done}
 use Rattle.contents.proofs.BodyLines.{TypedAt, OtherAt, LineSays, line-says, session-start}
 use Rattle.contents.proofs.Small.{session-lines-length}
-use Rattle.trials.specs.Trying.{item-row, line-row, all-rows}
+use Rattle.trials.specs.Trying.{item-row, line-row, all-rows, most-trials}
 use Rattle.trials.specs.declared.Verdict.{Verdict}
 use Rattle.trials.proofs.Items.{lines-le}
 use Rattle.trials.proofs.Sweep.{Swept, swept-first, swept-next, swept-end}
@@ -32,7 +32,7 @@ module _ (h : List ℕ) (with : Bool) (c body : List ℕ) where
         (swept-first (λ l. line-row h with c l .fits) (λ l. line-row h with c l .trials) (session-lines body));
   }
 
-  pub lining-few : (p : ℕ) (fits : Bool) (trials : ℕ) → Lining h with c body p fits trials → length body ≤ 65535 → trials ≤ 262143
+  pub lining-few : (p : ℕ) (fits : Bool) (trials : ℕ) → Lining h with c body p fits trials → length body ≤ 65535 → trials ≤ most-trials
   lining-few p fits trials w short =
       omega (arith, w .sweep .tried, lines-le h with c (session-lines body), session-lines-length body)
 

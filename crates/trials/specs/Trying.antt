@@ -34,3 +34,7 @@ line-row h with c l = item-row false h with c (l .type) (l .value ∷ [])
 -- some item fits; the trials of all
 abbrev pub all-rows : {A : Type 0} → (A → Verdict) → List A → Verdict
 all-rows f l = record { fits = some-of (λ a. f a .fits) l; trials = total (λ a. f a .trials) l }
+
+-- the trials of a row, at most: a readable request has no more fields with their values, and no more lines
+abbrev pub most-trials : ℕ
+most-trials = 262143

@@ -12,7 +12,7 @@ ghost use Rattle.contents.specs.Body.{session-lines};
 ghost use Rattle.contents.specs.Places.{values-from};
 ghost use Rattle.contents.specs.Values.{reduced, values-of};
 ghost use Rattle.request.specs.Places.{request-of, Placed};
-ghost use Rattle.trials.specs.Trying.{values-row, item-row, field-row, line-row, all-rows};
+ghost use Rattle.trials.specs.Trying.{values-row, item-row, field-row, line-row, all-rows, most-trials};
 
 // Whether a row fits, and the trials it took.
 pub struct Verdict {
@@ -132,7 +132,7 @@ pub fn try_fields(
     requires { ⌜ length (now s) ≤ length (now room) ⌝ }
     requires { ⌜ Ready true (now h) «h_shape» (now «h_sets») (now «h_before») ⌝ }
     requires { ⌜ Ready false (now c) «c_shape» (now «c_sets») (now «c_before») ⌝ }
-    ensures { λ r. ⌜ (r ≡ all-rows (field-row (now (h .entry)) with (now (c .entry))) (request-of (now (s .entry)) .fields)) × (r .trials ≤ 262143) ⌝ }
+    ensures { λ r. ⌜ (r ≡ all-rows (field-row (now (h .entry)) with (now (c .entry))) (request-of (now (s .entry)) .fields)) × (r .trials ≤ most-trials) ⌝ }
 {
     let long = contents::long_names();
     let fields = places.fields;
@@ -219,7 +219,7 @@ pub fn try_lines(
     requires { ⌜ length (now body) ≤ 65535 ⌝ }
     requires { ⌜ Ready false (now h) «h_shape» (now «h_sets») (now «h_before») ⌝ }
     requires { ⌜ Ready false (now c) «c_shape» (now «c_sets») (now «c_before») ⌝ }
-    ensures { λ r. ⌜ (r ≡ all-rows (line-row (now (h .entry)) with (now (c .entry))) (session-lines (now (body .entry)))) × (r .trials ≤ 262143) ⌝ }
+    ensures { λ r. ⌜ (r ≡ all-rows (line-row (now (h .entry)) with (now (c .entry))) (session-lines (now (body .entry)))) × (r .trials ≤ most-trials) ⌝ }
 {
     let mut fits = false;
     let mut trials: u32 = 0;

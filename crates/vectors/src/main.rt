@@ -3,6 +3,7 @@
 // data/cases and data/answers, and says how they are made.
 use libc::STDOUT_FILENO;
 use octets::byte_at;
+use octets::from_byte;
 use octets::same_bytes;
 use rows::Given;
 use session::Session;
@@ -15,22 +16,18 @@ ghost use lib.ListN.{length, getD};
 
 // ---- reading the files: a place past the end reads 0, so that a file that was cut shows as a difference
 
-fn wide(b: u8) -> u32 {
-    b as u32
-}
-
 fn number(s: &[u8], at: usize) -> u32 {
-    let a = wide(byte_at(s, at));
-    let b = wide(byte_at(s, on(at, 1)));
-    let c = wide(byte_at(s, on(at, 2)));
-    let d = wide(byte_at(s, on(at, 3)));
-    (a << 24) | (b << 16) | (c << 8) | d
+    let a = from_byte(byte_at(s, at));
+    let b = from_byte(byte_at(s, on(at, 1)));
+    let c = from_byte(byte_at(s, on(at, 2)));
+    let d = from_byte(byte_at(s, on(at, 3)));
+    octets::to_long(a * 16777216 + b * 65536 + c * 256 + d)
 }
 
 fn length_at(s: &[u8], at: usize) -> usize
     ensures { λ r. ⌜ r < 4294967296 ⌝ }
 {
-    number(s, at) as usize
+    octets::from_long(number(s, at))
 }
 
 // The bytes whose length stands at a place; none if they are not all there.
@@ -224,13 +221,9 @@ fn server(image: &[u8], n: [u32; 12]) -> [u32; 12] {
     ]
 }
 
-fn one_if(b: bool) -> u32 {
-    if b { 1 } else { 0 }
-}
-
 fn information(image: &[u8], n: [u32; 12]) -> [u32; 12] {
     let a = lookups::information(image, n[0]);
-    let present = one_if(a.present);
+    let present = octets::one_if(a.present);
     [
         n[0],
         a.place,

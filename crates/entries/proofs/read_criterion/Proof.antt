@@ -6,14 +6,14 @@ use Rattle.entries.proofs.read_criterion.Tie as tie
 priority-requires : tie.Need-priority-requires
 priority-requires c κs = search needs
 
-add-wide : tie.Need-add-wide
-add-wide c = search needs
+add-from-byte : tie.Need-add-from-byte
+add-from-byte c = search needs
 
-shared-slice-read-wide : tie.Need-shared-slice-read-wide
-shared-slice-read-wide c = search needs
+shared-slice-read-from-byte : tie.Need-shared-slice-read-from-byte
+shared-slice-read-from-byte c = search needs
 
-wide-requires : tie.Need-wide-requires
-wide-requires c κs = search needs
+from-byte-requires : tie.Need-from-byte-requires
+from-byte-requires c κs = search needs
 
 add-read-trigger : tie.Need-add-read-trigger
 add-read-trigger c = search needs
@@ -27,14 +27,14 @@ add-number c = search needs
 number-requires : tie.Need-number-requires
 number-requires c κs = search needs
 
-add-wide-2 : tie.Need-add-wide-2
-add-wide-2 c = search needs
+add-from-byte-2 : tie.Need-add-from-byte-2
+add-from-byte-2 c = search needs
 
-shared-slice-read-wide-2 : tie.Need-shared-slice-read-wide-2
-shared-slice-read-wide-2 c = search needs
+shared-slice-read-from-byte-2 : tie.Need-shared-slice-read-from-byte-2
+shared-slice-read-from-byte-2 c = search needs
 
-wide-requires-2 : tie.Need-wide-requires-2
-wide-requires-2 c κs = search needs
+from-byte-requires-2 : tie.Need-from-byte-requires-2
+from-byte-requires-2 c κs = search needs
 
 add-number-2 : tie.Need-add-number-2
 add-number-2 c = search needs
@@ -50,16 +50,16 @@ read-criterion-spec =
     tie.close
     (tie.spec
     priority-requires
-    add-wide
-    shared-slice-read-wide
-    wide-requires
+    add-from-byte
+    shared-slice-read-from-byte
+    from-byte-requires
     add-read-trigger
     read-trigger-requires
     add-number
     number-requires
-    add-wide-2
-    shared-slice-read-wide-2
-    wide-requires-2
+    add-from-byte-2
+    shared-slice-read-from-byte-2
+    from-byte-requires-2
     add-number-2
     number-requires-2
     returns)

@@ -3,11 +3,11 @@ use Rattle.entries.proofs.Readers.{trigger-is}
 use Rattle.entries.proofs.read_trigger.Statement.{statement}
 use Rattle.entries.proofs.read_trigger.Tie as tie
 
-shared-slice-read-wide : tie.Need-shared-slice-read-wide
-shared-slice-read-wide c = search needs
+shared-slice-read-from-byte : tie.Need-shared-slice-read-from-byte
+shared-slice-read-from-byte c = search needs
 
-wide-requires : tie.Need-wide-requires
-wide-requires c κs = search needs
+from-byte-requires : tie.Need-from-byte-requires
+from-byte-requires c κs = search needs
 
 add-number : tie.Need-add-number
 add-number c = search needs
@@ -28,8 +28,8 @@ pub read-trigger-spec : {M : Type 1} → statement M
 read-trigger-spec =
     tie.close
     (tie.spec
-    shared-slice-read-wide
-    wide-requires
+    shared-slice-read-from-byte
+    from-byte-requires
     add-number
     number-requires
     add-number-2

@@ -5,10 +5,10 @@ use Rattle.fitting.proofs.group_hits.Statement.{statement}
 use Rattle.fitting.proofs.group_hits.Tie as tie
 
 abbrev Inv-loop : tie.InvT-loop
-Inv-loop s at n first count mask want group i₀ i = Seeking want mask first count group s at n i × (i ≤ n)
+Inv-loop image at n first count mask want group i₀ i = Seeking want mask first count group image at n i × (i ≤ n)
 
 abbrev μ-loop : tie.MeasureT-loop
-μ-loop s at n first count mask want group i₀ i = n - i
+μ-loop image at n first count mask want group i₀ i = n - i
 
 loop-holds : tie.Need-loop-holds Inv-loop μ-loop
 loop-holds c = search (needs, seek-first)

@@ -5,10 +5,10 @@ use Rattle.fitting.proofs.groups_hold.Statement.{statement}
 use Rattle.fitting.proofs.groups_hold.Tie as tie
 
 abbrev Inv-loop : tie.InvT-loop
-Inv-loop s at n first count mask want i₀ i = Holding want mask first count s at n i × (i ≤ n)
+Inv-loop image at n first count mask want i₀ i = Holding want mask first count image at n i × (i ≤ n)
 
 abbrev μ-loop : tie.MeasureT-loop
-μ-loop s at n first count mask want i₀ i = n - i
+μ-loop image at n first count mask want i₀ i = n - i
 
 loop-holds : tie.Need-loop-holds Inv-loop μ-loop
 loop-holds c = search (needs, hold-first)

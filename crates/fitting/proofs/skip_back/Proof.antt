@@ -6,10 +6,10 @@ use Rattle.fitting.proofs.skip_back.Statement.{statement}
 use Rattle.fitting.proofs.skip_back.Tie as tie
 
 abbrev Inv-loop : tie.InvT-loop
-Inv-loop s at n first count k₀ k = (k ≤ n) × Same-rows first count s at n at k
+Inv-loop image at n first count k₀ k = (k ≤ n) × Same-rows first count image at n at k
 
 abbrev μ-loop : tie.MeasureT-loop
-μ-loop s at n first count k₀ k = k
+μ-loop image at n first count k₀ k = k
 
 loop-holds : tie.Need-loop-holds Inv-loop μ-loop
 loop-holds c = (search needs, search back-first)

@@ -6,10 +6,10 @@ use Rattle.fitting.proofs.skip_front.Statement.{statement}
 use Rattle.fitting.proofs.skip_front.Tie as tie
 
 abbrev Inv-loop : tie.InvT-loop
-Inv-loop s at n first count i₀ i = (i ≤ n) × Same-rows first count s at n (at + 4 * i) (n - i)
+Inv-loop image at n first count i₀ i = (i ≤ n) × Same-rows first count image at n (at + 4 * i) (n - i)
 
 abbrev μ-loop : tie.MeasureT-loop
-μ-loop s at n first count i₀ i = n - i
+μ-loop image at n first count i₀ i = n - i
 
 loop-holds : tie.Need-loop-holds Inv-loop μ-loop
 loop-holds c = (search needs, search front-first)

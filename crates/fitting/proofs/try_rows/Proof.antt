@@ -13,10 +13,10 @@ use Rattle.fitting.proofs.try_rows.Statement.{statement}
 use Rattle.fitting.proofs.try_rows.Tie as tie
 
 abbrev Inv-loop : tie.InvT-loop
-Inv-loop image table y first count s starts colons places given h-sets₀ h-before₀ c-sets₀ c-before₀ room₀ mask₀ trials₀ i₀ h-sets h-before c-sets c-before room mask trials i = Marking (fits-nth (request-of s) given (profile-in image)) (trials-nth (request-of s) (profile-in image)) first count i mask trials × (length room ≡ length room₀) × Spare h-sets h-before c-sets c-before
+Inv-loop image table y first count request starts colons places given h-sets₀ h-before₀ c-sets₀ c-before₀ room₀ mask₀ trials₀ i₀ h-sets h-before c-sets c-before room mask trials i = Marking (fits-nth (request-of request) given (profile-in image)) (trials-nth (request-of request) (profile-in image)) first count i mask trials × (length room ≡ length room₀) × Spare h-sets h-before c-sets c-before
 
 abbrev μ-loop : tie.MeasureT-loop
-μ-loop image table y first count s starts colons places given h-sets₀ h-before₀ c-sets₀ c-before₀ room₀ mask₀ trials₀ i₀ h-sets h-before c-sets c-before room mask trials i = count - i
+μ-loop image table y first count request starts colons places given h-sets₀ h-before₀ c-sets₀ c-before₀ room₀ mask₀ trials₀ i₀ h-sets h-before c-sets c-before room mask trials i = count - i
 
 loop-holds : tie.Need-loop-holds Inv-loop μ-loop
 loop-holds c = (search marking-first, search needs, c .before .before .before .before .before .pre .1 .1 .1)

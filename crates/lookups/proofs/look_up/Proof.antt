@@ -39,10 +39,19 @@ returns-3 : tie.Need-returns-3
 returns-3 c = looks-absent _ _ _ (c .before .before .before .before .before .before .before .before .before .judge .ensures) _ _ (c .before .before .before .before .before .before .before .if1 .left) (c .before .before .before .before .if2 .left) _ (c .before .before .string-named .ensures) (c .no-part-with3 .ensures) (c .before .if3 .taken)
 
 stored-part-requires : tie.Need-stored-part-requires
-stored-part-requires c κs = (table-of _ _ (c .before .before .before .before .before .before .before .before .before .before .judge .ensures) (c .before .before .before .before .before .before .before .before .if1 .left), (opened _ _ (c .before .before .before .before .before .before .before .before .before .before .judge .ensures) (c .before .before .before .before .before .before .before .before .if1 .left)) .size)
+stored-part-requires c κs = (
+  table-of _ _ (c .before .before .before .before .before .before .before .before .before .before .judge .ensures)
+      (c .before .before .before .before .before .before .before .before .if1 .left),
+  (opened _ _
+      (c .before .before .before .before .before .before .before .before .before .before .judge .ensures)
+      (c .before .before .before .before .before .before .before .before .if1 .left)) .size,
+)
 
 returns-4 : tie.Need-returns-4
-returns-4 c = looks-stored _ _ _ (c .before .before .before .before .before .before .before .before .before .before .before .judge .ensures) _ _ (c .before .before .before .before .before .before .before .before .before .if1 .left) (c .before .before .before .before .before .before .if2 .left) _ (c .before .before .before .before .string-named .ensures) (c .stored-part .ensures) (c .before .before .before .if3 .left)
+returns-4 c =
+    looks-stored _ _ _ (c .before .before .before .before .before .before .before .before .before .before .before .judge .ensures) _ _
+    (c .before .before .before .before .before .before .before .before .before .if1 .left) (c .before .before .before .before .before .before .if2 .left) _
+    (c .before .before .before .before .string-named .ensures) (c .stored-part .ensures) (c .before .before .before .if3 .left)
 
 pub look-up-spec : {M : Type 1} → statement M
 look-up-spec =

@@ -1,4 +1,4 @@
-use Rattle.profile.proofs.ImageLaws.{crit-1, crit-2, crit-3, crit-4, laid-refused, laid-end}
+use Rattle.profile.proofs.ImageLaws.{crit-1, crit-2, crit-3, crit-4, laid-end}
 use native.Mathlib.Omega.{arith}
 use Rattle.cells.proofs.Laws.{is, counted-inv}
 use borrow.Author.Needs.{needs}
@@ -8,17 +8,14 @@ use Rattle.profile.proofs.from_criteria.Tie as tie
 count-at-requires : tie.Need-count-at-requires
 count-at-requires c κs = search needs
 
-enum-known-f : tie.Need-enum-known-f
-enum-known-f c = search needs
+enum-known-n : tie.Need-enum-known-n
+enum-known-n c = search needs
 
-enum-told : tie.Need-enum-told
-enum-told c = search needs
-
-refusal-requires : tie.Need-refusal-requires
-refusal-requires c κs = search needs
+enum-known-number : tie.Need-enum-known-number
+enum-known-number c = search needs
 
 returns : tie.Need-returns
-returns c = (search crit-1, search laid-refused)
+returns c = (search crit-1, record { says = tt })
 
 add-criteria : tie.Need-add-criteria
 add-criteria c = search needs
@@ -26,30 +23,27 @@ add-criteria c = search needs
 criteria-requires : tie.Need-criteria-requires
 criteria-requires c κs = (
   omega arith,
-  omega (arith, counted-inv _ _ _ _ (is (c .before .before .before .count-at .ensures) (c .before .f .given .1))),
+  omega (arith, counted-inv _ _ _ _ (is (c .before .before .before .count-at .ensures) (c .before .n .given .1))),
   c .before .before .before .before .before .pre .1,
 )
 
-enum-known-g : tie.Need-enum-known-g
-enum-known-g c = search needs
+enum-known-end : tie.Need-enum-known-end
+enum-known-end c = search needs
 
-enum-told-2 : tie.Need-enum-told-2
-enum-told-2 c = search needs
-
-refusal-requires-2 : tie.Need-refusal-requires-2
-refusal-requires-2 c κs = search needs
+enum-known-number-2 : tie.Need-enum-known-number-2
+enum-known-number-2 c = search needs
 
 returns-2 : tie.Need-returns-2
-returns-2 c = (search crit-2, search laid-refused)
+returns-2 c = (search crit-2, record { says = tt })
 
 byte-at-requires : tie.Need-byte-at-requires
 byte-at-requires c κs = search needs
 
-wide-requires : tie.Need-wide-requires
-wide-requires c κs = search needs
+from-byte-requires : tie.Need-from-byte-requires
+from-byte-requires c κs = search needs
 
-add-t15 : tie.Need-add-t15
-add-t15 c = search needs
+add-t23 : tie.Need-add-t23
+add-t23 c = search needs
 
 returns-3 : tie.Need-returns-3
 returns-3 c = (search crit-3, search laid-end)
@@ -62,18 +56,16 @@ from-criteria-spec =
     tie.close
     (tie.spec
     count-at-requires
-    enum-known-f
-    enum-told
-    refusal-requires
+    enum-known-n
+    enum-known-number
     returns
     add-criteria
     criteria-requires
-    enum-known-g
-    enum-told-2
-    refusal-requires-2
+    enum-known-end
+    enum-known-number-2
     returns-2
     byte-at-requires
-    wide-requires
-    add-t15
+    from-byte-requires
+    add-t23
     returns-3
     returns-4)

@@ -1,4 +1,4 @@
-use Rattle.profile.proofs.ImageLaws.{rows-f, rows-g, rows-h, laid-refused, laid-on-rows}
+use Rattle.profile.proofs.ImageLaws.{rows-f, rows-g, rows-h, laid-on-rows}
 use Rattle.entries.proofs.Decode.{rows-are}
 use native.Mathlib.Omega.{arith}
 use denote.Ref.{now}
@@ -10,17 +10,14 @@ use Rattle.profile.proofs.from_rows.Tie as tie
 count-at-requires : tie.Need-count-at-requires
 count-at-requires c κs = search needs
 
-enum-known-f : tie.Need-enum-known-f
-enum-known-f c = search needs
+enum-known-n : tie.Need-enum-known-n
+enum-known-n c = search needs
 
-enum-told : tie.Need-enum-told
-enum-told c = search needs
-
-refusal-requires : tie.Need-refusal-requires
-refusal-requires c κs = search needs
+enum-known-number : tie.Need-enum-known-number
+enum-known-number c = search needs
 
 returns : tie.Need-returns
-returns c = (search rows-f, search laid-refused)
+returns c = (search rows-f, record { says = tt })
 
 judge-strings-requires : tie.Need-judge-strings-requires
 judge-strings-requires c κs = search needs
@@ -32,19 +29,16 @@ rows-requires : tie.Need-rows-requires
 rows-requires c κs =
     let j = c .before in
     let f = j .before .before .before in
-    (omega arith, omega (arith, counted-inv _ _ _ _ (is (f .before .before .count-at .ensures) (f .f .given .1))), j .judge-strings .ensures)
+    (omega arith, omega (arith, counted-inv _ _ _ _ (is (f .before .before .count-at .ensures) (f .n .given .1))), j .judge-strings .ensures)
 
-enum-known-g : tie.Need-enum-known-g
-enum-known-g c = search needs
+enum-known-next : tie.Need-enum-known-next
+enum-known-next c = search needs
 
-enum-told-2 : tie.Need-enum-told-2
-enum-told-2 c = search needs
-
-refusal-requires-2 : tie.Need-refusal-requires-2
-refusal-requires-2 c κs = search needs
+enum-known-number-2 : tie.Need-enum-known-number-2
+enum-known-number-2 c = search needs
 
 returns-2 : tie.Need-returns-2
-returns-2 c = (search rows-g, search laid-refused)
+returns-2 c = (search rows-g, record { says = tt })
 
 add-from-members : tie.Need-add-from-members
 add-from-members c = search needs
@@ -55,8 +49,8 @@ from-members-requires c κs =
     let j = g .before .before .before .before in
     let f = j .before .before .before in
     let at-count = f .before .before in
-    let n = counted-inv _ _ _ _ (is (at-count .count-at .ensures) (f .f .given .1)) in
-    let e = rows-are _ _ _ _ _ (is (g .before .before .rows .ensures) (g .g .given .1)) .1 in
+    let n = counted-inv _ _ _ _ (is (at-count .count-at .ensures) (f .n .given .1)) in
+    let e = rows-are _ _ _ _ _ (is (g .before .before .rows .ensures) (g .next .given .1)) .1 in
     (omega arith, omega arith, omega arith, j .judge-strings .ensures)
 
 returns-3 : tie.Need-returns-3
@@ -64,8 +58,8 @@ returns-3 c =
     let g = c .before .before .before in
     let j = g .before .before .before .before in
     let f = j .before .before .before in
-    let n = counted-inv _ _ _ _ (is (f .before .before .count-at .ensures) (f .f .given .1)) in
-    let e = rows-are _ _ _ _ _ (is (g .before .before .rows .ensures) (g .g .given .1)) .1 in
+    let n = counted-inv _ _ _ _ (is (f .before .before .count-at .ensures) (f .n .given .1)) in
+    let e = rows-are _ _ _ _ _ (is (g .before .before .rows .ensures) (g .next .given .1)) .1 in
     (search rows-h, laid-on-rows (now (f .before .before .before .before .args .s)) _ _ _ _ _ (c .from-members .ensures .1) (n .0) e)
 
 pub from-rows-spec : {M : Type 1} → statement M
@@ -73,16 +67,14 @@ from-rows-spec =
     tie.close
     (tie.spec
     count-at-requires
-    enum-known-f
-    enum-told
-    refusal-requires
+    enum-known-n
+    enum-known-number
     returns
     judge-strings-requires
     add-rows
     rows-requires
-    enum-known-g
-    enum-told-2
-    refusal-requires-2
+    enum-known-next
+    enum-known-number-2
     returns-2
     add-from-members
     from-members-requires

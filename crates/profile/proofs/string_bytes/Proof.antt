@@ -10,14 +10,14 @@ slice-aggregate-result c = search needs
 returns : tie.Need-returns
 returns c = search bytes-none
 
-mul-as-index : tie.Need-mul-as-index
-mul-as-index c = search needs
+mul-from-word : tie.Need-mul-from-word
+mul-from-word c = search needs
 
-element-copy-out-as-index : tie.Need-element-copy-out-as-index
-element-copy-out-as-index c = search needs
+element-copy-out-from-word : tie.Need-element-copy-out-from-word
+element-copy-out-from-word c = search needs
 
-as-index-requires : tie.Need-as-index-requires
-as-index-requires c κs = search needs
+from-word-requires : tie.Need-from-word-requires
+from-word-requires c κs = search needs
 
 text-requires : tie.Need-text-requires
 text-requires c κs = search inside-at
@@ -31,8 +31,8 @@ string-bytes-spec =
     (tie.spec
     slice-aggregate-result
     returns
-    mul-as-index
-    element-copy-out-as-index
-    as-index-requires
+    mul-from-word
+    element-copy-out-from-word
+    from-word-requires
     text-requires
     returns-2)

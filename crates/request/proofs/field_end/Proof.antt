@@ -7,20 +7,20 @@ use Rattle.request.proofs.field_end.Tie as tie
 add-if1 : tie.Need-add-if1
 add-if1 c = search needs
 
-add-as-index : tie.Need-add-as-index
-add-as-index c = search needs
+add-from-word : tie.Need-add-from-word
+add-from-word c = search needs
 
-mul-as-index : tie.Need-mul-as-index
-mul-as-index c = search needs
+mul-from-word : tie.Need-mul-from-word
+mul-from-word c = search needs
 
-shared-slice-read-as-index : tie.Need-shared-slice-read-as-index
-shared-slice-read-as-index c = search needs
+shared-slice-read-from-word : tie.Need-shared-slice-read-from-word
+shared-slice-read-from-word c = search needs
 
-as-index-requires : tie.Need-as-index-requires
-as-index-requires c κs = search needs
+from-word-requires : tie.Need-from-word-requires
+from-word-requires c κs = search needs
 
 sub-result : tie.Need-sub-result
-sub-result c = omega (arith, c .before .before .before .before .pre .2 (c .before .before .if1 .taken), c .as-index .ensures)
+sub-result c = omega (arith, c .before .before .before .before .pre .2 (c .before .before .if1 .taken), c .from-word .ensures)
 
 returns : tie.Need-returns
 returns c = search end-by-next
@@ -33,10 +33,10 @@ field-end-spec =
     tie.close
     (tie.spec
     add-if1
-    add-as-index
-    mul-as-index
-    shared-slice-read-as-index
-    as-index-requires
+    add-from-word
+    mul-from-word
+    shared-slice-read-from-word
+    from-word-requires
     sub-result
     returns
     returns-2)

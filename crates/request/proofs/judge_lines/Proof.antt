@@ -45,10 +45,30 @@ add-are-fields : tie.Need-add-are-fields
 add-are-fields c = omega (arith, n-inside (now (c .before .before .before .before .before .before .before .before .before .before .before .before .args .h)) _ (c .before .before .before .before .before .before .before .before .before .before .before .before .pre) (c .before .before .before .before .before .before .before .before .before .before .place-of .ensures))
 
 are-fields-requires : tie.Need-are-fields-requires
-are-fields-requires c κs = (search needs, (omega (arith, n-inside (now (c .before .before .before .before .before .before .before .before .before .before .before .before .args .h)) _ (c .before .before .before .before .before .before .before .before .before .before .before .before .pre) (c .before .before .before .before .before .before .before .before .before .before .place-of .ensures)), search needs, search rest-paired))
+are-fields-requires c κs = (
+  search needs,
+  (
+    omega (
+      arith,
+      n-inside (now
+          (c .before .before .before .before .before .before .before .before .before .before .before .before .args .h)) _
+          (c .before .before .before .before .before .before .before .before .before .before .before .before .pre)
+          (c .before .before .before .before .before .before .before .before .before .before .place-of .ensures),
+    ),
+    search needs,
+    search rest-paired,
+  ),
+)
 
 add-t19 : tie.Need-add-t19
-add-t19 c = omega (arith, n-inside (now (c .before .before .before .before .before .before .before .before .before .before .before .before .before .before .args .h)) _ (c .before .before .before .before .before .before .before .before .before .before .before .before .before .before .pre) (c .before .before .before .before .before .before .before .before .before .before .before .before .place-of .ensures))
+add-t19 c =
+    omega (
+      arith,
+      n-inside (now
+          (c .before .before .before .before .before .before .before .before .before .before .before .before .before .before .args .h)) _
+          (c .before .before .before .before .before .before .before .before .before .before .before .before .before .before .pre)
+          (c .before .before .before .before .before .before .before .before .before .before .before .before .place-of .ensures),
+    )
 
 returns-2 : tie.Need-returns-2
 returns-2 c = search lines-right

@@ -4,38 +4,38 @@ use borrow.Author.Needs.{needs}
 use Rattle.request.proofs.parts_at.Statement.{statement}
 use Rattle.request.proofs.parts_at.Tie as tie
 
-mul-as-index : tie.Need-mul-as-index
-mul-as-index c = omega (arith, few _ _ _ _ _ (c .before .before .before .pre .0) _ (c .before .before .before .pre .1))
+mul-from-word : tie.Need-mul-from-word
+mul-from-word c = omega (arith, few _ _ _ _ _ (c .before .before .before .pre .0) _ (c .before .before .before .pre .1))
 
-shared-slice-read-as-index : tie.Need-shared-slice-read-as-index
-shared-slice-read-as-index c = starts-place _ _ _ _ _ (c .before .before .before .before .pre .0) _ (c .before .before .before .before .pre .1)
+shared-slice-read-from-word : tie.Need-shared-slice-read-from-word
+shared-slice-read-from-word c = starts-place _ _ _ _ _ (c .before .before .before .before .pre .0) _ (c .before .before .before .before .pre .1)
 
-as-index-requires : tie.Need-as-index-requires
-as-index-requires c κs = search needs
+from-word-requires : tie.Need-from-word-requires
+from-word-requires c κs = search needs
 
-mul-as-index-2 : tie.Need-mul-as-index-2
-mul-as-index-2 c = omega (arith, few _ _ _ _ _ (c .before .before .before .before .before .pre .0) _ (c .before .before .before .before .before .pre .1))
+mul-from-word-2 : tie.Need-mul-from-word-2
+mul-from-word-2 c = omega (arith, few _ _ _ _ _ (c .before .before .before .before .before .pre .0) _ (c .before .before .before .before .before .pre .1))
 
-shared-slice-read-as-index-2 : tie.Need-shared-slice-read-as-index-2
-shared-slice-read-as-index-2 c = colons-place _ _ _ _ _ (c .before .before .before .before .before .before .pre .0) _ (c .before .before .before .before .before .before .pre .1)
+shared-slice-read-from-word-2 : tie.Need-shared-slice-read-from-word-2
+shared-slice-read-from-word-2 c = colons-place _ _ _ _ _ (c .before .before .before .before .before .before .pre .0) _ (c .before .before .before .before .before .before .pre .1)
 
-as-index-requires-2 : tie.Need-as-index-requires-2
-as-index-requires-2 c κs = search needs
+from-word-requires-2 : tie.Need-from-word-requires-2
+from-word-requires-2 c κs = search needs
 
 sub-trimmed-end : tie.Need-sub-trimmed-end
 sub-trimmed-end c =
     let entry = c .before .before .before .before .before .before .before in
-    omega (arith, name-order _ _ _ _ _ (entry .pre .0) _ (entry .pre .1) _ _ (c .before .before .as-index .ensures) (c .as-index2 .ensures))
+    omega (arith, name-order _ _ _ _ _ (entry .pre .0) _ (entry .pre .1) _ _ (c .before .before .from-word .ensures) (c .from-word2 .ensures))
 
 part-trimmed-end-start : tie.Need-part-trimmed-end-start
 part-trimmed-end-start c =
     let entry = c .before .before .before .before .before .before .before in
-    name-order _ _ _ _ _ (entry .pre .0) _ (entry .pre .1) _ _ (c .before .before .as-index .ensures) (c .as-index2 .ensures)
+    name-order _ _ _ _ _ (entry .pre .0) _ (entry .pre .1) _ _ (c .before .before .from-word .ensures) (c .from-word2 .ensures)
 
 part-trimmed-end-end : tie.Need-part-trimmed-end-end
 part-trimmed-end-end c =
     let entry = c .before .before .before .before .before .before .before in
-    name-inside _ _ _ _ _ (entry .pre .0) _ (entry .pre .1) _ _ (c .before .before .as-index .ensures) (c .as-index2 .ensures)
+    name-inside _ _ _ _ _ (entry .pre .0) _ (entry .pre .1) _ _ (c .before .before .from-word .ensures) (c .from-word2 .ensures)
 
 trimmed-end-requires : tie.Need-trimmed-end-requires
 trimmed-end-requires c κs = search needs
@@ -48,30 +48,30 @@ field-end-requires c κs =
 add-t11 : tie.Need-add-t11
 add-t11 c =
     let entry = c .before .before .before .before .before .before .before .before .before .before in
-    let start = c .before .before .before .before .before .as-index .ensures in
-    let colon = c .before .before .before .as-index2 .ensures in
+    let start = c .before .before .before .before .before .from-word .ensures in
+    let colon = c .before .before .before .from-word2 .ensures in
     omega (arith, stop-inside _ _ _ _ _ (entry .pre .0) _ (entry .pre .1) _ _ start colon _ (c .before .trimmed-end .ensures), name-inside _ _ _ _ _ (entry .pre .0) _ (entry .pre .1) _ _ start colon)
 
 add-t18 : tie.Need-add-t18
 add-t18 c =
     let entry = c .before .before .before .before .before .before .before .before .before .before in
-    omega (arith, small _ _ _ _ _ (entry .pre .0) _ (entry .pre .1) _ _ (c .before .before .before .before .before .as-index .ensures) (c .before .before .before .as-index2 .ensures))
+    omega (arith, small _ _ _ _ _ (entry .pre .0) _ (entry .pre .1) _ _ (c .before .before .before .before .before .from-word .ensures) (c .before .before .before .from-word2 .ensures))
 
 returns : tie.Need-returns
 returns c =
     let entry = c .before .before .before .before .before .before .before .before .before .before in
-    parts-are _ _ _ _ _ (entry .pre .0) _ (entry .pre .1) _ _ (c .before .before .before .before .before .as-index .ensures) (c .before .before .before .as-index2 .ensures) _ (c .before .trimmed-end .ensures) _ (c .field-end .ensures)
+    parts-are _ _ _ _ _ (entry .pre .0) _ (entry .pre .1) _ _ (c .before .before .before .before .before .from-word .ensures) (c .before .before .before .from-word2 .ensures) _ (c .before .trimmed-end .ensures) _ (c .field-end .ensures)
 
 pub parts-at-spec : {M : Type 1} → statement M
 parts-at-spec =
     tie.close
     (tie.spec
-    mul-as-index
-    shared-slice-read-as-index
-    as-index-requires
-    mul-as-index-2
-    shared-slice-read-as-index-2
-    as-index-requires-2
+    mul-from-word
+    shared-slice-read-from-word
+    from-word-requires
+    mul-from-word-2
+    shared-slice-read-from-word-2
+    from-word-requires-2
     sub-trimmed-end
     part-trimmed-end-start
     part-trimmed-end-end

@@ -21,7 +21,14 @@ same-length : tie.Need-same-length
 same-length c = search needs
 
 returns : tie.Need-returns
-returns c = let tested = c .before .before .before .before .try-test .ensures in (tried-negated _ _ _ (c .before .before .before .before .before .before .before .before .before .before .before .before .before .before .before .before .before .pre .0 .0) _ _ (c .before .before .before .before .before .before .before .before .before .before .read-row .ensures) _ _ _ (tested .0 .0) (tested .0 .1) (c .before .if1 .taken), tested .1)
+returns c =
+    let tested = c .before .before .before .before .try-test .ensures in (
+      tried-negated _ _ _
+          (c .before .before .before .before .before .before .before .before .before .before .before .before .before .before .before .before .before .pre .0 .0) _ _
+          (c .before .before .before .before .before .before .before .before .before .before .read-row .ensures) _ _ _ (tested .0 .0) (tested .0 .1)
+          (c .before .if1 .taken),
+      tested .1,
+    )
 
 same-length-2 : tie.Need-same-length-2
 same-length-2 c = search needs

@@ -4,8 +4,8 @@ use Rattle.request.proofs.Readings.{uri-room, uri-order, uri-inside, method-ins
 use Rattle.rows.proofs.try_test.Statement.{statement}
 use Rattle.rows.proofs.try_test.Tie as tie
 
-wide-requires : tie.Need-wide-requires
-wide-requires c κs = search needs
+from-long-requires : tie.Need-from-long-requires
+from-long-requires c κs = search needs
 
 single-requires : tie.Need-single-requires
 single-requires c κs = search needs
@@ -65,13 +65,25 @@ same-length : tie.Need-same-length
 same-length c = search needs
 
 returns-4 : tie.Need-returns-4
-returns-4 c = ((pattern-row _ _ (c .before .before .before .before .before .before .before .before .before .before .before .before .before .before .before .before .before .before .pre .1 .0) (c .before .before .before .before .before .before .before .before .before .before .before .before .if1 .left) (c .before .before .before .before .before .before .before .before .before .before .if2 .left) (c .before .before .before .before .before .before .before .before .before .if3 .left) _ _ _ _ (c .before .before .before .before .before .before .before .before .before .before .before .string-bytes .ensures) (c .before .before .before .before .before .before .before .before .string-bytes2 .ensures) _ (c .before .before .try-patterns .ensures .0 .0), search needs), c .before .before .try-patterns .ensures .1)
+returns-4 c = (
+  (
+    pattern-row _ _
+        (c .before .before .before .before .before .before .before .before .before .before .before .before .before .before .before .before .before .before .pre .1 .0)
+        (c .before .before .before .before .before .before .before .before .before .before .before .before .if1 .left)
+        (c .before .before .before .before .before .before .before .before .before .before .if2 .left)
+        (c .before .before .before .before .before .before .before .before .before .if3 .left) _ _ _ _
+        (c .before .before .before .before .before .before .before .before .before .before .before .string-bytes .ensures)
+        (c .before .before .before .before .before .before .before .before .string-bytes2 .ensures) _ (c .before .before .try-patterns .ensures .0 .0),
+    search needs,
+  ),
+  c .before .before .try-patterns .ensures .1,
+)
 
 pub try-test-spec : {M : Type 1} → statement M
 try-test-spec =
     tie.close
     (tie.spec
-    wide-requires
+    from-long-requires
     single-requires
     returns
     string-bytes-requires

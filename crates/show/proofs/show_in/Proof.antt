@@ -29,12 +29,21 @@ same-length-3 : tie.Need-same-length-3
 same-length-3 c = search needs
 
 returns : tie.Need-returns
-returns c = show-past _ _ _ _ _ _ (c .before .before .before .before .before .before .before .before .before .before .before .before .read .ensures) _ _ _ (c .before .before .before .before .before .before .before .before .before .before .before .before .before .before .before .before .before .before .before .before .before .pre .0) _ _ _ (c .before .before .before .before .places .given .1) (c .before .if1 .taken) (c .refuse2 .ensures)
+returns c =
+    let entry = c .before .before .before .before .before .before .before .before .before .before .before .before .before .before .before .before .before .before .before .before .before in
+    let at-read = c .before .before .before .before .before .before .before .before .before .before .before .before in
+    let at-places = c .before .before .before .before in
+    show-past _ _ _ _ _ _ (at-read .read .ensures) _ _ _ (entry .pre .0) _ _ _ (at-places .places .given .1) (c .before .if1 .taken) (c .refuse2 .ensures)
 
 show-row-requires : tie.Need-show-row-requires
-show-row-requires c κs = let read = c .before .before .before .before .before .before .before .before .before .before .before .before .before .before .read .ensures in
-    let told = c .before .before .before .before .before .before .places .given .1 in
-    ((c .before .before .before .before .before .before .before .before .before .before .before .before .before .before .before .before .before .before .before .before .before .before .before .pre .0, c .before .before .before .if1 .left), (readable _ _ _ _ _ _ read _ told, search (value-room, read, told, c .before .before .before .before .before .before .before .before .before .before .before .before .before .before .before .before .before .before .before .before .before .before .before .pre .1)))
+show-row-requires c κs =
+    let entry = c .before .before .before .before .before .before .before .before .before .before .before .before .before .before .before .before .before .before .before .before .before .before .before in
+    let at-read = c .before .before .before .before .before .before .before .before .before .before .before .before .before .before in
+    let at-places = c .before .before .before .before .before .before in
+    let at-if1 = c .before .before .before in
+    let read = at-read .read .ensures in
+    let told = at-places .places .given .1 in
+    ((entry .pre .0, at-if1 .if1 .left), (readable _ _ _ _ _ _ read _ told, search (value-room, read, told, entry .pre .1)))
 
 answer-of-requires : tie.Need-answer-of-requires
 answer-of-requires c κs = search needs
@@ -61,7 +70,13 @@ same-length-9 : tie.Need-same-length-9
 same-length-9 c = search needs
 
 returns-3 : tie.Need-returns-3
-returns-3 c = show-done _ _ _ _ _ _ (c .before .before .before .before .before .before .before .before .before .before .before .before .before .before .before .before .before .before .read .ensures) _ _ _ (c .before .before .before .before .before .before .before .before .before .before .before .before .before .before .before .before .before .before .before .before .before .before .before .before .before .before .before .pre .0) _ _ _ (c .before .before .before .before .before .before .before .before .before .before .places .given .1) (c .before .before .before .before .before .before .before .if1 .left) _ (c .before .before .before .show-row .ensures .0) (c .answer-of .ensures)
+returns-3 c =
+    let entry = c .before .before .before .before .before .before .before .before .before .before .before .before .before .before .before .before .before .before .before .before .before .before .before .before .before .before .before in
+    let at-read = c .before .before .before .before .before .before .before .before .before .before .before .before .before .before .before .before .before .before in
+    let at-places = c .before .before .before .before .before .before .before .before .before .before in
+    let at-if1 = c .before .before .before .before .before .before .before in
+    let at-show-row = c .before .before .before in
+    show-done _ _ _ _ _ _ (at-read .read .ensures) _ _ _ (entry .pre .0) _ _ _ (at-places .places .given .1) (at-if1 .if1 .left) _ (at-show-row .show-row .ensures .0) (c .answer-of .ensures)
 
 pub show-in-spec : {M : Type 1} → statement M
 show-in-spec =

@@ -22,14 +22,24 @@ part-show-lines-end : tie.Need-part-show-lines-end
 part-show-lines-end c = search needs
 
 show-lines-requires : tie.Need-show-lines-requires
-show-lines-requires c κs = (lines-short _ _ _ _ (c .before .before .before .before .before .before .before .before .before .before .before .before .before .before .before .before .before .before .pre .0), (ready-body _ _ _ _ _ (c .before .before .before .before .before .before .before .before .before .load .ensures) (c .before .before .before .before .before .if1 .taken), c .before .before .before .before .before .before .load2 .ensures))
+show-lines-requires c κs =
+    let entry = c .before .before .before .before .before .before .before .before .before .before .before .before .before .before .before .before .before .before in
+    let at-load = c .before .before .before .before .before .before .before .before .before in
+    let at-load2 = c .before .before .before .before .before .before in
+    let at-if1 = c .before .before .before .before .before in
+    (lines-short _ _ _ _ (entry .pre .0), (ready-body _ _ _ _ _ (at-load .load .ensures) (at-if1 .if1 .taken), at-load2 .load2 .ensures))
 
 returns : tie.Need-returns
 returns c = let shown = c .show-lines .ensures in
     (shown-body _ _ _ _ (c .before .before .before .before .before .before .before .before .before .before .before .before .before .before .before .before .before .before .before .pre .0) _ _ _ _ _ (c .before .before .before .before .before .before .if1 .taken) (shown .0), shown .1)
 
 show-fields-requires : tie.Need-show-fields-requires
-show-fields-requires c κs = (c .before .before .before .before .before .before .before .before .before .before .before .before .before .before .before .before .before .before .pre .0, (c .before .before .before .before .before .before .before .before .before .before .before .before .before .before .before .before .before .before .pre .1, (ready-head _ _ _ _ _ (c .before .before .before .before .before .before .before .before .before .load .ensures) (c .before .before .before .before .before .if1 .left), c .before .before .before .before .before .before .load2 .ensures)))
+show-fields-requires c κs =
+    let entry = c .before .before .before .before .before .before .before .before .before .before .before .before .before .before .before .before .before .before in
+    let at-load = c .before .before .before .before .before .before .before .before .before in
+    let at-load2 = c .before .before .before .before .before .before in
+    let at-if1 = c .before .before .before .before .before in
+    (entry .pre .0, (entry .pre .1, (ready-head _ _ _ _ _ (at-load .load .ensures) (at-if1 .if1 .left), at-load2 .load2 .ensures)))
 
 same-length : tie.Need-same-length
 same-length c = search needs

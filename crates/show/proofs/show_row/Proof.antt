@@ -16,7 +16,9 @@ read-row-requires : tie.Need-read-row-requires
 read-row-requires c κs = (row-end _ _ _ (c .before .before .before .before .before .before .pre .0 .0) _ (c .before .before .before .before .before .before .pre .0 .1), bounds _ _ _ (c .before .before .before .before .before .before .pre .0 .0) .size)
 
 show-test-requires : tie.Need-show-test-requires
-show-test-requires c κs = ((string-table _ _ _ (c .before .before .before .before .before .before .before .before .pre .0 .0), kth-matchable _ _ _ (c .before .before .before .before .before .before .before .before .pre .0 .0) _ _ (c .before .read-row .ensures) (c .before .before .before .before .before .before .before .before .pre .0 .1)), c .before .before .before .before .before .before .before .before .pre .1)
+show-test-requires c κs =
+    let entry = c .before .before .before .before .before .before .before .before in
+    ((string-table _ _ _ (entry .pre .0 .0), kth-matchable _ _ _ (entry .pre .0 .0) _ _ (c .before .read-row .ensures) (entry .pre .0 .1)), entry .pre .1)
 
 same-length : tie.Need-same-length
 same-length c = search needs

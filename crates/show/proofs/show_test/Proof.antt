@@ -35,7 +35,14 @@ same-length : tie.Need-same-length
 same-length c = search needs
 
 returns-4 : tie.Need-returns-4
-returns-4 c = (pattern-shown _ _ (c .before .before .before .before .before .before .before .before .before .before .before .before .before .before .pre .0 .1) (c .before .before .before .before .before .before .before .before .if1 .left) (c .before .before .before .before .before .before .before .if2 .left) (c .before .before .before .before .before .before .if3 .left) _ _ _ (c .before .before .before .before .before .string-bytes .ensures) (c .before .before .before .before .string-bytes2 .ensures) _ (c .before .before .show-patterns .ensures .0), c .before .before .show-patterns .ensures .1)
+returns-4 c =
+    let entry = c .before .before .before .before .before .before .before .before .before .before .before .before .before .before in
+    let at-if1 = c .before .before .before .before .before .before .before .before in
+    let at-if2 = c .before .before .before .before .before .before .before in
+    let at-if3 = c .before .before .before .before .before .before in
+    let at-string-bytes = c .before .before .before .before .before in
+    let at-string-bytes2 = c .before .before .before .before in
+    (pattern-shown _ _ (entry .pre .0 .1) (at-if1 .if1 .left) (at-if2 .if2 .left) (at-if3 .if3 .left) _ _ _ (at-string-bytes .string-bytes .ensures) (at-string-bytes2 .string-bytes2 .ensures) _ (c .before .before .show-patterns .ensures .0), c .before .before .show-patterns .ensures .1)
 
 pub show-test-spec : {M : Type 1} → statement M
 show-test-spec =

@@ -59,9 +59,16 @@ same-length : tie.Need-same-length Inv-loop μ-loop
 same-length c = search needs
 
 returns : tie.Need-returns Inv-loop μ-loop
-returns c = let w = c .before .before .before .before .before .before .before .before .before .before .before .before .loop .inv .0 in
-    let found = fielding-found _ _ _ _ (c .before .before .before .before .before .before .before .before .before .before .before .before .before .before .before .before .before .before .before .before .pre .0) _ _ _ _ w (c .before .before .before .before .before .before .before .before .before .before .before .loop-test .taken) _ (c .before .before .before .before .before .before .before .before .before .before .field-at .ensures) _ (c .before .before .before .before .before .before .before .as-matched .ensures) _ (c .before .before .before .before .spot-in-field .ensures .0) (c .before .if1 .taken) _ (c .shown-in .ensures) in
-    (found, fielding-low _ _ _ _ (c .before .before .before .before .before .before .before .before .before .before .before .before .before .before .before .before .before .before .before .before .pre .0) _ _ _ _ w (c .before .before .before .before .before .before .before .before .before .before .before .loop-test .taken) _ (c .before .before .before .before .before .before .before .before .before .before .field-at .ensures) _ (c .before .before .before .before .before .before .before .as-matched .ensures) _ (c .before .before .before .before .spot-in-field .ensures .0) (c .before .before .before .before .spot-in-field .ensures .1) _ (c .shown-in .ensures))
+returns c =
+    let entry = c .before .before .before .before .before .before .before .before .before .before .before .before .before .before .before .before .before .before .before .before in
+    let at-loop = c .before .before .before .before .before .before .before .before .before .before .before .before in
+    let at-loop-test = c .before .before .before .before .before .before .before .before .before .before .before in
+    let at-field-at = c .before .before .before .before .before .before .before .before .before .before in
+    let at-as-matched = c .before .before .before .before .before .before .before in
+    let at-spot-in-field = c .before .before .before .before in
+    let w = at-loop .loop .inv .0 in
+    let found = fielding-found _ _ _ _ (entry .pre .0) _ _ _ _ w (at-loop-test .loop-test .taken) _ (at-field-at .field-at .ensures) _ (at-as-matched .as-matched .ensures) _ (at-spot-in-field .spot-in-field .ensures .0) (c .before .if1 .taken) _ (c .shown-in .ensures) in
+    (found, fielding-low _ _ _ _ (entry .pre .0) _ _ _ _ w (at-loop-test .loop-test .taken) _ (at-field-at .field-at .ensures) _ (at-as-matched .as-matched .ensures) _ (at-spot-in-field .spot-in-field .ensures .0) (at-spot-in-field .spot-in-field .ensures .1) _ (c .shown-in .ensures))
 
 add-i : tie.Need-add-i Inv-loop μ-loop
 add-i c = record { fits = index-room _ _ _ _ (c .before .before .before .before .before .before .before .before .before .before .before .before .before .before .before .before .before .before .before .pre .0) _ (c .before .before .before .before .before .before .before .before .before .before .loop-test .taken) }
@@ -70,7 +77,14 @@ loop-less : tie.Need-loop-less Inv-loop μ-loop
 loop-less c = search needs
 
 loop-again : tie.Need-loop-again Inv-loop μ-loop
-loop-again c = (fielding-next _ _ _ _ (c .before .before .before .before .before .before .before .before .before .before .before .before .before .before .before .before .before .before .before .pre .0) _ _ _ _ (c .before .before .before .before .before .before .before .before .before .before .before .loop .inv .0) (c .before .before .before .before .before .before .before .before .before .before .loop-test .taken) _ (c .before .before .before .before .before .before .before .before .before .field-at .ensures) _ (c .before .before .before .before .before .before .as-matched .ensures) _ (c .before .before .before .spot-in-field .ensures .0) (c .if1 .left), search needs, search needs)
+loop-again c =
+    let entry = c .before .before .before .before .before .before .before .before .before .before .before .before .before .before .before .before .before .before .before in
+    let at-loop = c .before .before .before .before .before .before .before .before .before .before .before in
+    let at-loop-test = c .before .before .before .before .before .before .before .before .before .before in
+    let at-field-at = c .before .before .before .before .before .before .before .before .before in
+    let at-as-matched = c .before .before .before .before .before .before in
+    let at-spot-in-field = c .before .before .before in
+    (fielding-next _ _ _ _ (entry .pre .0) _ _ _ _ (at-loop .loop .inv .0) (at-loop-test .loop-test .taken) _ (at-field-at .field-at .ensures) _ (at-as-matched .as-matched .ensures) _ (at-spot-in-field .spot-in-field .ensures .0) (c .if1 .left), search needs, search needs)
 
 none-shown-requires : tie.Need-none-shown-requires Inv-loop μ-loop
 none-shown-requires c κs = search needs

@@ -16,14 +16,14 @@ class-table-requires c κs = search needs
 loop-holds : tie.Need-loop-holds Inv-loop μ-loop
 loop-holds c = search told-none
 
-mul-as-index : tie.Need-mul-as-index Inv-loop μ-loop
-mul-as-index c = search needs
+mul-from-word : tie.Need-mul-from-word Inv-loop μ-loop
+mul-from-word c = search needs
 
-element-copy-out-as-index : tie.Need-element-copy-out-as-index Inv-loop μ-loop
-element-copy-out-as-index c = search needs
+element-copy-out-from-word : tie.Need-element-copy-out-from-word Inv-loop μ-loop
+element-copy-out-from-word c = search needs
 
-as-index-requires : tie.Need-as-index-requires Inv-loop μ-loop
-as-index-requires c κs = search needs
+from-word-requires : tie.Need-from-word-requires Inv-loop μ-loop
+from-word-requires c κs = search needs
 
 text-requires : tie.Need-text-requires Inv-loop μ-loop
 text-requires c κs = search inside-at
@@ -54,9 +54,9 @@ judge-strings-spec =
     μ-loop
     class-table-requires
     loop-holds
-    mul-as-index
-    element-copy-out-as-index
-    as-index-requires
+    mul-from-word
+    element-copy-out-from-word
+    from-word-requires
     text-requires
     uses-of-requires
     element-write-uses

@@ -36,7 +36,16 @@ blanks-requires : tie.Need-blanks-requires
 blanks-requires c κs = search needs
 
 add-t8 : tie.Need-add-t8
-add-t8 c = omega (arith, trimmed-le (now (c .before .before .before .before .before .before .args .v)) _ (c .before .before .before .before .before .before .pre .0) _ (c .before .before .before .before .piece-end .ensures) _ (c .before .before .trimmed-end .ensures), blanks-le (now (c .before .before .before .before .before .before .args .v)) _ (c .before .before .before .before .before .before .pre .0) _ (c .before .before .before .before .piece-end .ensures) _ (c .before .before .trimmed-end .ensures) _ (c .blanks .ensures))
+add-t8 c =
+    omega (
+      arith,
+      trimmed-le (now (c .before .before .before .before .before .before .args .v)) _
+          (c .before .before .before .before .before .before .pre .0) _ (c .before .before .before .before .piece-end .ensures) _
+          (c .before .before .trimmed-end .ensures),
+      blanks-le (now (c .before .before .before .before .before .before .args .v)) _
+          (c .before .before .before .before .before .before .pre .0) _ (c .before .before .before .before .piece-end .ensures) _
+          (c .before .before .trimmed-end .ensures) _ (c .blanks .ensures),
+    )
 
 add-t6 : tie.Need-add-t6
 add-t6 c = omega (arith, piece-inside (now (c .before .before .before .before .before .before .args .v)) _ (c .before .before .before .before .before .before .pre .0) _ (c .before .before .before .before .piece-end .ensures))

@@ -14,14 +14,14 @@ abbrev μ-loop : tie.MeasureT-loop
 loop-holds : tie.Need-loop-holds Inv-loop μ-loop
 loop-holds c = placed-first _ _ _
 
-mul-as-index : tie.Need-mul-as-index Inv-loop μ-loop
-mul-as-index c = search needs
+mul-from-word : tie.Need-mul-from-word Inv-loop μ-loop
+mul-from-word c = search needs
 
-element-copy-out-as-index : tie.Need-element-copy-out-as-index Inv-loop μ-loop
-element-copy-out-as-index c = search needs
+element-copy-out-from-word : tie.Need-element-copy-out-from-word Inv-loop μ-loop
+element-copy-out-from-word c = search needs
 
-as-index-requires : tie.Need-as-index-requires Inv-loop μ-loop
-as-index-requires c κs = search needs
+from-word-requires : tie.Need-from-word-requires Inv-loop μ-loop
+from-word-requires c κs = search needs
 
 returns : tie.Need-returns Inv-loop μ-loop
 returns c = search placed-none
@@ -51,9 +51,9 @@ all-placed-spec =
     Inv-loop
     μ-loop
     loop-holds
-    mul-as-index
-    element-copy-out-as-index
-    as-index-requires
+    mul-from-word
+    element-copy-out-from-word
+    from-word-requires
     returns
     returns-2
     add-at

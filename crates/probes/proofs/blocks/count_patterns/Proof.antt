@@ -1,9 +1,9 @@
 use borrow.Author.Needs.{needs}
-use mathlib.Core.Path.{_≡_}
+use mathlib.Core.Path.{_≡_, _∙_}
 use Prim.Native.Nat.{_+_, _-_}
 use lib.ListN.{length}
 use Rattle.pattern.specs.Answers.{meets-text}
-use Rattle.probes.proofs.Counting.{Counting, counting-first, counting-end, counting-next, one-most, line-inside}
+use Rattle.probes.proofs.Counting.{Counting, counting-first, counting-end, counting-next, line-inside}
 use native.Mathlib.Omega.{arith}
 use Rattle.probes.proofs.blocks.count_patterns.Statement.{statement}
 use Rattle.probes.proofs.blocks.count_patterns.Tie as tie
@@ -35,22 +35,31 @@ read-and-test-requires c κs = search needs
 one-if-requires : tie.Need-one-if-requires Inv-loop μ-loop
 one-if-requires c κs = search needs
 
+from-long-requires : tie.Need-from-long-requires Inv-loop μ-loop
+from-long-requires c κs = search needs
+
 add-n : tie.Need-add-n Inv-loop μ-loop
 add-n c =
-    let room = c .before .before .before .before .before .before .before .before .before .before .good .0 .1 in
-    let came = c .before .before .before .before .before .before .before .loop .inv .0 in
-    omega (arith, room, one-most _ (c .before .read-and-test .result) (c .one-if .ensures), came .few, c .before .before .before .before .before .before .loop-test .taken)
+    let room = c .before .before .before .before .before .before .before .before .before .before .before .good .0 .1 in
+    let came = c .before .before .before .before .before .before .before .before .loop .inv .0 in
+    omega (arith, room, c .before .one-if .ensures .1, c .from-long .ensures, came .few, c .before .before .before .before .before .before .before .loop-test .taken)
 
 add-at : tie.Need-add-at Inv-loop μ-loop
 add-at c =
-    let room = c .before .before .before .before .before .before .before .before .before .before .good .0 .1 in
-    omega (arith, room, line-inside _ _ _ (c .before .before .before .before .before .before .loop-test .taken) (c .before .before .before .before .before .line-end .ensures))
+    let room = c .before .before .before .before .before .before .before .before .before .before .before .good .0 .1 in
+    omega (arith, room, line-inside _ _ _ (c .before .before .before .before .before .before .before .loop-test .taken) (c .before .before .before .before .before .before .line-end .ensures))
 
 loop-less : tie.Need-loop-less Inv-loop μ-loop
 loop-less c = search (needs, line-inside)
 
 loop-again : tie.Need-loop-again Inv-loop μ-loop
-loop-again c = (search counting-next, c .before .read-and-test .ensures .1 .0, c .before .read-and-test .ensures .1 .1)
+loop-again c =
+    let tested = c .before .before .read-and-test .ensures in (
+      counting-next _ _ _ _ (c .before .before .before .before .before .before .before .loop-test .taken) (c .before .before .before .before .before .before .line-end .ensures) _ (tested .0) _ (c .from-long .ensures ∙ c .before .one-if .ensures .0) _
+          (c .before .before .before .before .before .before .before .before .loop .inv .0),
+      tested .1 .0,
+      tested .1 .1,
+    )
 
 returns : tie.Need-returns Inv-loop μ-loop
 returns c = search counting-end
@@ -68,6 +77,7 @@ count-patterns-spec =
     part-read-and-test-end
     read-and-test-requires
     one-if-requires
+    from-long-requires
     add-n
     add-at
     loop-less

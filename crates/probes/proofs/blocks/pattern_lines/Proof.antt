@@ -22,7 +22,7 @@ cast-met c = search needs
 returns-2 : tie.Need-returns-2
 returns-2 c =
     answered _ _ _ _ (c .before .before .before .before .is-loaded .ensures ∙ c .before .before .before .before .before .load .ensures .told)
-    (c .before .before .before .if1 .left) _ (c .count .ensures)
+    (c .before .before .before .if1 .left) _ (c .count .ensures _ _ (c .before .before .before .before .before .load .ensures))
 
 pub pattern-lines-spec : {M : Type 1} → statement M
 pattern-lines-spec =

@@ -28,8 +28,8 @@ part-count-lines-end c = search needs
 count-lines-requires : tie.Need-count-lines-requires
 count-lines-requires c κs = search rest-short
 
-small-requires : tie.Need-small-requires
-small-requires c κs = search fields-low
+to-long-requires : tie.Need-to-long-requires
+to-long-requires c κs = search fields-low
 
 same-length : tie.Need-same-length
 same-length c = search needs
@@ -67,7 +67,7 @@ count-parts-spec =
     part-count-lines-start
     part-count-lines-end
     count-lines-requires
-    small-requires
+    to-long-requires
     same-length
     same-length-2
     same-length-3
