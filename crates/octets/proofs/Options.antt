@@ -1,9 +1,7 @@
 -- What holds of whatever is read, where something is read at all.
-use mathlib.Core.Bool.{Bool, true, false}
 use mathlib.Core.Option.{Option, none, some}
 use mathlib.Core.Path.{_≡_, refl}
-use lib.Dec.{T}
-use Rattle.octets.specs.Option.{_>>=_, holds}
+use Rattle.octets.specs.Option.{_>>=_}
 
 abbrev pub Ok : {A : Type 0} → (A → Type 0) → Option A → Type 0
 Ok P none = Unit {0}
@@ -23,7 +21,3 @@ module _ {A B : Type 0} where
 pub any : {A : Type 0} (o : Option A) → Ok (λ a. Unit {0}) o
 any none = tt
 any (some a) = tt
-
-pub holds-T : (b : Bool) → Ok (λ u. T b) (holds b)
-holds-T true = tt
-holds-T false = tt

@@ -55,10 +55,6 @@ module _ (s : List ℕ) (j : Judgement) (o : Opened s j) where
   unfolding profile-in
   row-at k h = spaced-at (row-from (strings s) s) 7 (layout s .rows) (layout s .«row_count») k h
 
-  pub member-at : (k : ℕ) → k < layout s .«member_count» → getElem? (profile-in s .members) k ≡ some (member-from s (layout s .members + 4 * k))
-  unfolding profile-in
-  member-at k h = spaced-at (member-from s) 4 (layout s .members) (layout s .«member_count») k h
-
   pub criterion-at : (k : ℕ) → k < layout s .«criterion_count» → getElem? (profile-in s .criteria) k ≡ some (criterion-from (strings s) s (layout s .criteria + 15 * k))
   unfolding profile-in
   criterion-at k h = spaced-at (criterion-from (strings s) s) 15 (layout s .criteria) (layout s .«criterion_count») k h
