@@ -1,5 +1,5 @@
 #!/bin/sh
-# What docs/STATEMENTS.md names exists. The library from C: the header, the archive's names, what is installed, document 01's worked
+# What docs/STATEMENTS.md names exists, and its reading order is that of the files. The library from C: the header, the archive's names, what is installed, document 01's worked
 # images and its marked trigger, what is shown of a row, the examples, requests from the wire, threads, stack, garbage; then the fixed
 # cases of the second program and COUNT random ones from SEED. Patterns from C, on three times as many blocks of lines; and the reading
 # of requests, with the end of the head at every place, and on 50,000 random ones.
@@ -27,6 +27,7 @@ compare() {
 }
 
 python3 tests/statements.py
+python3 tests/believe.py
 make_library ifc
 make_library probes
 cargo build --release --offline --quiet --manifest-path second/Cargo.toml --target-dir "$out/second"

@@ -17,7 +17,8 @@ def text(pattern):
 def defined(crate, folders, module, name):
     """Whether a module declares the name: it stands first on a line, or after the words that begin a declaration, before its type."""
     first = r"^ *(?:unfoldable |abbrev )?(?:pub )?(?:data |record )?" + re.escape(name) + r" (?:[({][^=\n]*)?:"
-    return any(re.search(first, text(f"crates/{crate}/{folder}/{module}.antt"), re.M) for folder in folders)
+    modules = ["Main", "Details"] if module == "Main" else [module]
+    return any(re.search(first, text(f"crates/{crate}/{folder}/{m}.antt"), re.M) for folder in folders for m in modules)
 
 
 def function(crate, name):
@@ -40,7 +41,7 @@ def check(column, cell, row):
         else:
             if "." in name:
                 module, name = name.split(".", 1)
-            folders = ["proofs", "specs"] if column == "Theorem" else ["specs"]
+            folders = (["proofs"] if column == "Theorem" else []) + ["specs", "specs/Inner"]
             found = crate and module and defined(crate, folders, module, name)
         if not found:
             wrong.append(f"{column}: {crate or ''} {module or ''} {name} does not exist ({row[:60]})")
@@ -58,7 +59,7 @@ columns = ["Sentence", "Definition", "Theorem", "Code", "Test"]
 rows = 0
 for line in open("docs/STATEMENTS.md", encoding="utf-8"):
     cells = [c.strip() for c in line.strip().strip("|").split(" | ")]
-    if not line.startswith("| ") or cells[2] == "Theorem":
+    if not line.startswith("| ") or cells[2] == "Theorem" or re.match(r"\| (File \||`crates/)", line):
         continue
     rows += 1
     if len(cells) != len(columns) or "" in cells:

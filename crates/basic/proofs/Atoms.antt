@@ -12,9 +12,9 @@ use borrow.Author.Tests.{ne-eqb, eq-eqb, eqb-true, eqb-false, not-true, not-fals
 use Rattle.octets.specs.Lists.{text, pick, some-of, peek}
 use Rattle.octets.specs.Option.{_>>=_}
 use Rattle.basic.specs.Pattern.{Range, Atom, byte, dot, list}
-use Rattle.basic.specs.Places.{map-got, items-of, PieceAt}
+use Rattle.basic.specs.Inner.Places.{map-got, items-of, PieceAt}
 use Rattle.basic.specs.Reading.{Read, read, bracket, escaped, asterisk, atom}
-use Rattle.basic.specs.Drawn.{drawn}
+use Rattle.basic.specs.Inner.Drawn.{drawn}
 use Rattle.basic.specs.declared.reader.Piece.{Piece}
 use Rattle.basic.proofs.Items.{passed, stopped}
 use Rattle.basic.proofs.Listing.{piece-none, piece-some}

@@ -13,7 +13,7 @@ use Rattle.octets.specs.Option.{_>>=_, holds}
 use Rattle.octets.proofs.Tests.{either}
 use Rattle.octets.proofs.Options.{Ok, ok-then, bind-ext, any}
 use Rattle.basic.specs.Pattern.{Range, Atom, byte, dot, list}
-use Rattle.basic.specs.Places.{items-of, body-of}
+use Rattle.basic.specs.Inner.Places.{items-of, body-of}
 use Rattle.basic.specs.Reading.{elem, Read, read, class-opens, range-opens, range, single, begins-item, item, items, bracket, escaped, asterisk, atom, Body, body}
 
 -- what is left is no longer than s

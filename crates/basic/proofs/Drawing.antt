@@ -8,8 +8,8 @@ use lib.ListN.{replicate}
 use Rattle.octets.specs.Bytes.{within}
 use Rattle.octets.specs.Lists.{some-of}
 use Rattle.basic.specs.Pattern.{Range, Atom, byte, dot, list, in-range}
-use Rattle.basic.specs.Drawn.{drawn}
-use Rattle.basic.specs.Sets.{words}
+use Rattle.basic.specs.Inner.Drawn.{drawn}
+use Rattle.basic.specs.Inner.Sets.{words}
 use Rattle.basic.proofs.Words.{words-ext, no-words}
 
 -- where no sets are asked for, all are alike

@@ -15,8 +15,9 @@ use Rattle.octets.specs.Option.{_>>=_, holds}
 use Rattle.octets.proofs.Tests.{T-of, is-true, left, either}
 use Rattle.machine.proofs.Places.{drop-at, empty-at}
 use Rattle.basic.specs.Pattern.{Atom, Elem, Pattern}
-use Rattle.basic.specs.Places.{map-got, body-of, start-of, stop-of, PieceAt}
-use Rattle.basic.specs.Reading.{Read, atom, elem, Body, read-pattern, was-read, is-pattern}
+use Rattle.basic.specs.Inner.Places.{map-got, body-of, start-of, stop-of, PieceAt}
+use Rattle.basic.specs.Reading.{Read, atom, elem, Body, read-pattern}
+use Rattle.basic.specs.Inner.Judged.{was-read, is-pattern}
 use Rattle.basic.specs.declared.reader.Piece.{Piece}
 use Rattle.basic.proofs.Atoms.{piece-found, piece-lost, map-none, map-some}
 use Rattle.basic.proofs.Countdown.{body-next, body-none, body-fuel}

@@ -13,7 +13,7 @@ use borrow.Author.Tests.{ne-eqb, eq-eqb, le-leb, lt-leb, not-true, not-false}
 use Rattle.octets.specs.Lists.{pick, peek}
 use Rattle.octets.specs.Option.{_>>=_, holds}
 use Rattle.basic.specs.Pattern.{Range}
-use Rattle.basic.specs.Places.{ItemAt}
+use Rattle.basic.specs.Inner.Places.{ItemAt}
 use Rattle.basic.specs.Reading.{Read, read, class-opens, range-opens, range, single, begins-item, item}
 use Rattle.basic.specs.declared.reader.Item.{Item}
 use Rattle.basic.proofs.Places.{peek-in, peek-inside}

@@ -12,9 +12,9 @@ use Rattle.octets.specs.Lists.{pick}
 use Rattle.octets.specs.Option.{_>>=_}
 use Rattle.machine.proofs.Places.{drop-at}
 use Rattle.basic.specs.Pattern.{Range, list}
-use Rattle.basic.specs.Places.{map-got, items-of, ItemAt, PieceAt}
+use Rattle.basic.specs.Inner.Places.{map-got, items-of, ItemAt, PieceAt}
 use Rattle.basic.specs.Reading.{Read, read, item}
-use Rattle.basic.specs.Drawn.{drawn}
+use Rattle.basic.specs.Inner.Drawn.{drawn}
 use Rattle.basic.specs.declared.reader.Item.{Item}
 use Rattle.basic.specs.declared.reader.Piece.{Piece}
 use Rattle.basic.proofs.Countdown.{items-next, items-none}

@@ -11,10 +11,11 @@ use lib.Dec.{eqb, ltb, leb}
 use lib.ListN.{getD, set, replicate}
 use lib.Pow.{pow-lt}
 use borrow.Author.Tests.{eqb-true, eqb-false, eq-eqb, ne-eqb, lt-ltb, le-ltb, le-leb, lt-leb, leb-true, leb-false}
-use Rattle.octets.specs.Bits.{bit, mask}
+use Rattle.octets.specs.Bits.{bit}
+use Rattle.octets.specs.Inner.Masks.{mask}
 use Rattle.octets.specs.Bytes.{within}
 use Rattle.octets.proofs.Bits.{bit-pow, bit-zero, bit-ones, mask-of, mask-or, mask-ext, mask-with, mask-not, ones-up, ones-down, shl-one}
-use Rattle.basic.specs.Sets.{word, words}
+use Rattle.basic.specs.Inner.Sets.{word, words}
 
 -- ---- words
 

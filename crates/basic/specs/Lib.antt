@@ -1,5 +1,3 @@
-pub mod Drawn
+pub mod Inner
 pub mod Pattern
-pub mod Places
 pub mod Reading
-pub mod Sets

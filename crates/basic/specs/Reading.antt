@@ -117,13 +117,3 @@ read-pattern s = do
   b ← body (suc (length s)) true (pick start (drop 1 s) s)
   _ ← holds (leb (length (b .parts)) 60)
   some (record { at-start = start; elems = b .parts; at-end = b .anchored })
-
--- whether a pattern was read
-abbrev pub was-read : Option Pattern → Bool
-was-read none = false
-was-read (some p) = true
-
--- whether a string is a pattern
-unfoldable pub is-pattern : List ℕ → Bool
-unfolding read-pattern
-is-pattern s = was-read (read-pattern s)

@@ -3,7 +3,7 @@ ghost use mathlib.Core.Path.{_≡_};
 ghost use mathlib.Core.Bool.{false};
 ghost use mathlib.Core.List.{List, [], _∷_, _++_};
 ghost use Rattle.basic.specs.Pattern.{Range, byte, dot, list};
-ghost use Rattle.basic.specs.Drawn.{drawn};
+ghost use Rattle.basic.specs.Inner.Drawn.{drawn};
 use crate::sets::add_range;
 use crate::sets::only;
 use crate::sets::others;

@@ -1,6 +1,6 @@
 // Basic regular expressions (document 01, "Patterns (source 001)"): a string is read as one, and whether it is one is told.
 ghost use mathlib.Core.Path.{_≡_};
-ghost use Rattle.basic.specs.Reading.{is-pattern};
+ghost use Rattle.basic.specs.Inner.Judged.{is-pattern};
 
 mod draw;
 mod reader;

@@ -3,9 +3,9 @@ ghost use mathlib.Core.Path.{_≡_};
 ghost use mathlib.Core.Bool.{Bool, not, _&&_, _||_};
 ghost use Prim.Native.Nat.{ℕ, _+_};
 ghost use lib.Dec.{eqb, leb};
-ghost use Rattle.octets.specs.Bits.{mask};
+ghost use Rattle.octets.specs.Inner.Masks.{mask};
 ghost use Rattle.octets.specs.Bytes.{within};
-ghost use Rattle.basic.specs.Sets.{word, words};
+ghost use Rattle.basic.specs.Inner.Sets.{word, words};
 
 // All bits of a word.
 const ALL: u64 = 18446744073709551615;

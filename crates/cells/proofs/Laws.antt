@@ -7,9 +7,9 @@ use mathlib.Core.List.{List}
 use lib.ListN.{length}
 use lib.Dec.{leb}
 use borrow.Author.Tests.{le-leb, lt-leb, leb-true}
-use Rattle.cells.specs.Out.{Out, good, bad, _>>=_, _>>_, must}
-use Rattle.cells.specs.Places.{whole, u8, u16, u32, byte, word, long, limited, counted, sized}
-use Rattle.cells.specs.Answers.{field-out}
+use Rattle.cells.specs.Inner.Out.{Out, good, bad, _>>=_, _>>_, must}
+use Rattle.cells.specs.Inner.Places.{whole, u8, u16, u32, byte, word, long, limited, counted, sized}
+use Rattle.cells.specs.Inner.Answers.{field-out}
 use Rattle.cells.specs.declared.Field.{Field}
 use Rattle.cells.specs.declared.Field.the-variants.{Is, Refused}
 

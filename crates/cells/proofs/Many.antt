@@ -3,8 +3,8 @@ use Prim.Native.Nat.{ℕ, zero, suc, _+_, _-_, _≤_, _<_}
 use native.Mathlib.Omega.{arith}
 use mathlib.Core.Path.{_≡_, sym, ap}
 use mathlib.Core.List.{List, [], _∷_, _++_}
-use Rattle.cells.specs.Out.{Out, good, bad, _>>=_}
-use Rattle.cells.specs.Places.{many, ends}
+use Rattle.cells.specs.Inner.Out.{Out, good, bad, _>>=_}
+use Rattle.cells.specs.Inner.Places.{many, ends}
 use Rattle.cells.proofs.Laws.{good-inj, bad-good}
 
 pub left : (n k : ℕ) → k < n → n - k ≡ suc (n - (k + 1))

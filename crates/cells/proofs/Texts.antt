@@ -11,9 +11,9 @@ use lib.Dec.{leb}
 use borrow.Author.Tests.{leb-true}
 use Rattle.cells.specs.declared.Field.the-variants.{Is}
 use lib.Seq.{take-suc-set, getD-set-same, getD-set-other, drop-drop, drop-set-lt}
-use Rattle.cells.specs.Out.{good, bad, _>>_}
-use Rattle.cells.specs.Places.{many, reading-strings, string, sized, counted, whole, word, text-at, texts, Inside, offsets, past}
-use Rattle.cells.specs.Answers.{Tabled, Filled}
+use Rattle.cells.specs.Inner.Out.{good, bad, _>>_}
+use Rattle.cells.specs.Inner.Places.{many, reading-strings, string, sized, counted, whole, word, text-at, texts, Inside, offsets, past}
+use Rattle.cells.specs.Inner.Answers.{Tabled, Filled}
 use Rattle.cells.proofs.Laws.{bind-inv, must-inv, counted-inv, good-inj}
 use Rattle.cells.proofs.Many.{many-step, many-bad, many-end}
 

@@ -13,10 +13,10 @@ use borrow.Author.Count.{below-none, below-more}
 use borrow.Author.Tests.{eq-eqb, ne-eqb, lt-ltb, le-ltb}
 use Rattle.octets.specs.Lists.{pick, empty}
 use Rattle.octets.specs.Bytes.{token}
-use Rattle.basic.specs.Reading.{is-pattern}
-use Rattle.cells.specs.Out.{Out, good, bad, _>>=_}
-use Rattle.cells.specs.Places.{u16, word, text-at, texts, usable, use-bits, uses-of, named, named-or-absent, exactly}
-use Rattle.cells.specs.Answers.{Table, Known}
+use Rattle.basic.specs.Inner.Judged.{is-pattern}
+use Rattle.cells.specs.Inner.Out.{Out, good, bad, _>>=_}
+use Rattle.cells.specs.Inner.Places.{u16, word, text-at, texts, usable, use-bits, uses-of, named, named-or-absent, exactly}
+use Rattle.cells.specs.Inner.Answers.{Table, Known}
 use Rattle.cells.proofs.Laws.{is, refused}
 
 pub text-is : (s : List ℕ) (o n : ℕ) → n ≡ word s o → take (o + 2 + n - (o + 2)) (drop (o + 2) s) ≡ text-at s o

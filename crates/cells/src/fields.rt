@@ -3,8 +3,8 @@
 ghost use mathlib.Core.Path.{_≡_};
 ghost use Prim.Native.Nat.{_+_, _≤_, _<_};
 ghost use lib.ListN.{length};
-ghost use Rattle.cells.specs.Places.{u8, u16, u32, limited, counted, exactly, word, long};
-ghost use Rattle.cells.specs.Answers.{field-out};
+ghost use Rattle.cells.specs.Inner.Places.{u8, u16, u32, limited, counted, exactly, word, long};
+ghost use Rattle.cells.specs.Inner.Answers.{field-out};
 use crate::Field;
 use octets::from_byte;
 

@@ -12,15 +12,15 @@ use borrow.Author.Tests.{le-leb, lt-leb, lt-ltb, le-ltb, eq-eqb, ne-eqb, eqb-tru
 use Rattle.octets.specs.Lists.{pick, empty}
 use Rattle.octets.proofs.Tests.{test-cases}
 use Rattle.cuts.specs.Cutting.{begins, cut-at, first-line}
-use Rattle.cuts.specs.Parts.{part}
-use Rattle.cuts.specs.Searching.{first}
+use Rattle.cuts.specs.Inner.Parts.{part}
+use Rattle.cuts.specs.Inner.Searching.{first}
 use Rattle.cuts.proofs.Cuts.{cut-on, cut-last, nonempty}
 use Rattle.cuts.proofs.Parts.{length-part, drop-take, front-by, front-le}
 use Rattle.cuts.proofs.Search.{first-le}
 use Rattle.cuts.proofs.From as F
 use Rattle.contents.specs.Body.{Line, drop-cr, ended, line, lines, session-lines}
-use Rattle.contents.specs.Places.{line-places, body-line, session-from}
-use Rattle.contents.specs.Steps.{ended-line}
+use Rattle.contents.specs.Inner.Places.{line-places, body-line, session-from}
+use Rattle.contents.specs.Inner.Steps.{ended-line}
 use Rattle.contents.specs.declared.BodyLine.{BodyLine}
 use Rattle.contents.specs.declared.BodyLine.the-variants.{Typed, Other, Done}
 

@@ -11,14 +11,14 @@ use Rattle.octets.specs.Bytes.{lowers, same-any-case}
 use Rattle.octets.specs.Lists.{text, same, some-of}
 use Rattle.octets.proofs.Tests.{T-of, same-eq}
 use Rattle.cuts.specs.Cutting.{begins, first-cut, before-cut}
-use Rattle.cuts.specs.Parts.{part}
-use Rattle.cuts.specs.Searching.{first, text-here}
+use Rattle.cuts.specs.Inner.Parts.{part}
+use Rattle.cuts.specs.Inner.Searching.{first, text-here}
 use Rattle.cuts.specs.Trimming.{trim-right, trim}
 use Rattle.cuts.proofs.Parts.{part-front}
 use Rattle.cuts.proofs.Search.{before-is, first-le}
 use Rattle.cuts.proofs.Trims.{trim-part, trim-le}
 use Rattle.contents.specs.Description.{content-type, says-description, one-description}
-use Rattle.contents.specs.Places.{values-from, piece-at}
+use Rattle.contents.specs.Inner.Places.{values-from, piece-at}
 use Rattle.contents.specs.Values.{never-cut, values-of}
 use Rattle.contents.specs.declared.Piece.{Piece}
 use Rattle.contents.proofs.Values.{ValueAt, value-says, values-past, values-cut}

@@ -7,7 +7,7 @@ use native.Mathlib.Nat.{sub-zero}
 use native.Mathlib.Omega.{arith}
 use lib.ListN.{length, take, drop, length-append}
 use lib.Seq.{take-at}
-use Rattle.cuts.specs.Parts.{over}
+use Rattle.cuts.specs.Inner.Parts.{over}
 use Rattle.contents.specs.Values.{reduced}
 use Rattle.contents.proofs.Norm.{reduced-le}
 

@@ -13,10 +13,10 @@ use borrow.Author.Tests.{eqb-true, lt-ltb}
 use Rattle.octets.specs.Bytes.{white}
 use Rattle.octets.specs.Lists.{pick, some-of, empty, peek}
 use Rattle.octets.proofs.Tests.{test-cases, or-neither}
-use Rattle.cuts.specs.Parts.{over}
+use Rattle.cuts.specs.Inner.Parts.{over}
 use Rattle.cuts.specs.Trimming.{trim-left, trim-right}
 use Rattle.cuts.proofs.Writing.{Written, written-start, written-put, written-end, written-count, written-length}
-use Rattle.contents.specs.Steps.{space}
+use Rattle.contents.specs.Inner.Steps.{space}
 use Rattle.contents.specs.Values.{spaces, squeeze, reduced}
 
 -- ---- bytes

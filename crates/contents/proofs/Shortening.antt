@@ -9,9 +9,9 @@ use lib.ListN.{length, getD, take, drop}
 use Rattle.octets.specs.Bytes.{lower, same-any-case}
 use Rattle.octets.specs.Lists.{text, pick}
 use Rattle.cuts.specs.Cutting.{begins}
-use Rattle.cuts.specs.Searching.{first}
+use Rattle.cuts.specs.Inner.Searching.{first}
 use Rattle.contents.specs.Names.{Short, short-names, long-by, name-as-matched}
-use Rattle.contents.specs.Steps.{place-in, short-place, long-at, long-name, long-names, long-starts}
+use Rattle.contents.specs.Inner.Steps.{place-in, short-place, long-at, long-name, long-names, long-starts}
 
 -- ---- the name as it is matched is the one at its place
 

@@ -11,17 +11,17 @@ use lib.Dec.{eqb}
 use borrow.Author.Tests.{eq-eqb, ne-eqb, eqb-true}
 use Rattle.octets.specs.Bytes.{same-any-case}
 use Rattle.octets.specs.Lists.{text, pick}
-use Rattle.cuts.specs.Parts.{part}
+use Rattle.cuts.specs.Inner.Parts.{part}
 use Rattle.cuts.specs.Cutting.{first-line}
-use Rattle.cuts.specs.Searching.{first, span, text-here}
+use Rattle.cuts.specs.Inner.Searching.{first, span, text-here}
 use Rattle.cuts.specs.Trimming.{trim-right, trim}
 use Rattle.cuts.proofs.Cuts.{pieces-from, span-yes, span-no, span-le, splits, piece-from}
 use Rattle.cuts.proofs.Parts.{drop-take, length-part}
 use Rattle.cuts.proofs.Search.{first-le}
 use Rattle.cuts.proofs.Trims.{trim-front, trim-le, trim-left-at}
 use Rattle.cuts.proofs.From as F
-use Rattle.contents.specs.Places.{values-from, trimmed-at, piece-at}
-use Rattle.contents.specs.Steps.{mode-of}
+use Rattle.contents.specs.Inner.Places.{values-from, trimmed-at, piece-at}
+use Rattle.contents.specs.Inner.Steps.{mode-of}
 use Rattle.contents.specs.Values.{Mode, plain, quoted, escaped, angle, step, cuts, pieces, never-cut, values-of}
 use Rattle.contents.specs.declared.Piece.{Piece}
 use Rattle.contents.specs.declared.pieces.Within.{Within}

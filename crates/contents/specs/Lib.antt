@@ -1,6 +1,5 @@
 pub mod Body
 pub mod Description
+pub mod Inner
 pub mod Names
-pub mod Places
-pub mod Steps
 pub mod Values

@@ -3,9 +3,9 @@ ghost use mathlib.Core.Path.{_≡_};
 ghost use Prim.Native.Nat.{_+_, _≤_};
 ghost use lib.Dec.{ltb};
 ghost use lib.ListN.{length};
-ghost use Rattle.cuts.specs.Parts.{part};
-ghost use Rattle.contents.specs.Places.{body-line};
-ghost use Rattle.contents.specs.Steps.{ended-line};
+ghost use Rattle.cuts.specs.Inner.Parts.{part};
+ghost use Rattle.contents.specs.Inner.Places.{body-line};
+ghost use Rattle.contents.specs.Inner.Steps.{ended-line};
 use crate::BodyLine;
 
 // Where the line of a body that stands from a place to k ends: before a CR that an LF follows.

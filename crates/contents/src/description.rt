@@ -3,7 +3,7 @@ ghost use mathlib.Core.Path.{_≡_};
 ghost use Prim.Native.Nat.{_≤_};
 ghost use lib.ListN.{length};
 ghost use Rattle.contents.specs.Description.{says-description, one-description};
-ghost use Rattle.contents.specs.Places.{values-from};
+ghost use Rattle.contents.specs.Inner.Places.{values-from};
 use crate::pieces::next_value;
 
 // "up to the first semicolon and trimmed, is `application/sdp` in any case".

@@ -3,7 +3,7 @@ ghost use mathlib.Core.Path.{_≡_};
 ghost use Prim.Native.Nat.{_≤_, _<_};
 ghost use lib.ListN.{getD};
 ghost use Rattle.contents.specs.Names.{name-as-matched};
-ghost use Rattle.contents.specs.Steps.{short-place, long-name, long-names, long-starts};
+ghost use Rattle.contents.specs.Inner.Steps.{short-place, long-name, long-names, long-starts};
 ghost use Rattle.contents.specs.Values.{never-cut};
 
 // Where a name stands in the table of ten short names, in either case; 10 where it is none of them. A name of more than one byte is told

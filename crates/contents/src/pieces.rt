@@ -2,10 +2,10 @@
 ghost use mathlib.Core.Path.{_≡_};
 ghost use Prim.Native.Nat.{_+_, _≤_};
 ghost use lib.ListN.{length, drop};
-ghost use Rattle.cuts.specs.Parts.{over};
-ghost use Rattle.cuts.specs.Searching.{span};
-ghost use Rattle.contents.specs.Places.{piece-at};
-ghost use Rattle.contents.specs.Steps.{space, mode-of};
+ghost use Rattle.cuts.specs.Inner.Parts.{over};
+ghost use Rattle.cuts.specs.Inner.Searching.{span};
+ghost use Rattle.contents.specs.Inner.Places.{piece-at};
+ghost use Rattle.contents.specs.Inner.Steps.{space, mode-of};
 ghost use Rattle.contents.specs.Values.{plain, step, cuts, reduced};
 use crate::Piece;
 

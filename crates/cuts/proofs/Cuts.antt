@@ -12,8 +12,8 @@ use borrow.Author.Tests.{eq-eqb, ne-eqb, eqb-true, eqb-false}
 use Rattle.octets.specs.Lists.{pick}
 use Rattle.octets.proofs.Tests.{either}
 use Rattle.cuts.specs.Cutting.{begins, push, cut-by, cut-at}
-use Rattle.cuts.specs.Parts.{part}
-use Rattle.cuts.specs.Searching.{first, span}
+use Rattle.cuts.specs.Inner.Parts.{part}
+use Rattle.cuts.specs.Inner.Searching.{first, span}
 use Rattle.cuts.proofs.From as F
 
 -- the pieces from a place on; none past the end

@@ -8,7 +8,7 @@ use native.Mathlib.Omega.{arith}
 use lib.ListN.{length, take, drop, length-drop, length-take}
 use lib.Seq.{take-take, take-nil, length-take-le}
 use Rattle.octets.specs.Lists.{pick}
-use Rattle.cuts.specs.Parts.{part}
+use Rattle.cuts.specs.Inner.Parts.{part}
 
 pub drop-take : (a n : ℕ) (s : List ℕ) → drop a (take n s) ≡ take (n - a) (drop a s)
 drop-take zero n s = ap (λ (k : ℕ). take k s) (sym (sub-zero n))

@@ -16,7 +16,7 @@ use Rattle.octets.specs.Lists.{pick}
 use Rattle.octets.specs.Option.{_>>=_}
 use Rattle.octets.proofs.Tests.{right, T-of, is-true}
 use Rattle.cuts.specs.Cutting.{Cut, begins, first-cut, before-cut}
-use Rattle.cuts.specs.Searching.{first}
+use Rattle.cuts.specs.Inner.Searching.{first}
 
 module _ (p : List ℕ → Bool) where
   pub first-no : (b : ℕ) (s : List ℕ) → p (b ∷ s) ≡ false → first p (b ∷ s) ≡ suc (first p s)

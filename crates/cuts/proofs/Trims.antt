@@ -11,8 +11,8 @@ use borrow.Author.Tests.{not-true, not-false}
 use Rattle.octets.specs.Bytes.{white}
 use Rattle.octets.specs.Lists.{pick, empty}
 use Rattle.cuts.specs.Trimming.{trim-right, trim-left, trim}
-use Rattle.cuts.specs.Parts.{part}
-use Rattle.cuts.specs.Searching.{first, text-here}
+use Rattle.cuts.specs.Inner.Parts.{part}
+use Rattle.cuts.specs.Inner.Searching.{first, text-here}
 use Rattle.cuts.proofs.Parts.{front-by, front-le, drop-take}
 use Rattle.cuts.proofs.Search.{Came, came-next, came-found, first-yes, first-no}
 

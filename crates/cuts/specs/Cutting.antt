@@ -49,11 +49,7 @@ cut-by stops next m (b ∷ s) =
 abbrev pub cut-at : ℕ → List ℕ → List (List ℕ)
 cut-at c s = cut-by (λ (u : Unit {0}) b. eqb b c) (λ u b. u) tt s
 
--- the first line, and those after it
+-- the first line, or nothing
 abbrev pub first-line : List (List ℕ) → List ℕ
 first-line [] = []
 first-line (l ∷ ls) = l
-
-abbrev pub later-lines : List (List ℕ) → List (List ℕ)
-later-lines [] = []
-later-lines (l ∷ ls) = ls

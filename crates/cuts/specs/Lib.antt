@@ -1,4 +1,3 @@
 pub mod Cutting
-pub mod Parts
-pub mod Searching
+pub mod Inner
 pub mod Trimming

@@ -5,7 +5,7 @@ ghost use Prim.Native.Nat.{_+_, _≤_};
 ghost use lib.ListN.{length, drop};
 ghost use Rattle.octets.specs.Bytes.{white};
 ghost use Rattle.cuts.specs.Cutting.{begins};
-ghost use Rattle.cuts.specs.Searching.{first, text-here};
+ghost use Rattle.cuts.specs.Inner.Searching.{first, text-here};
 ghost use Rattle.cuts.specs.Trimming.{trim-right};
 
 // The place of the first byte b from a place on, or the length where there is none.

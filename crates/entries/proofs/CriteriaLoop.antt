@@ -9,11 +9,11 @@ use mathlib.Core.Bool.{Bool, true, false, _||_, or-false, or-true}
 use mathlib.Core.List.{List, [], _∷_, _++_}
 use lib.Dec.{eqb}
 use borrow.Author.Tests.{eq-eqb, ne-eqb}
-use Rattle.cells.specs.Out.{Out, good, bad, _>>=_, _>>_}
-use Rattle.cells.specs.Places.{many, u32, long, limited, named, named-or-absent, ends}
-use Rattle.entries.specs.Places.{stands, trigger, rest, criterion, reading-criteria}
+use Rattle.cells.specs.Inner.Out.{Out, good, bad, _>>=_, _>>_}
+use Rattle.cells.specs.Inner.Places.{many, u32, long, limited, named, named-or-absent, ends}
+use Rattle.entries.specs.Inner.Places.{stands, trigger, rest, reading-criterion, reading-criteria}
 use Rattle.entries.specs.declared.Criterion.{Criterion}
-use Rattle.cells.specs.Answers.{field-out}
+use Rattle.cells.specs.Inner.Answers.{field-out}
 use Rattle.cells.specs.declared.Field.{Field}
 use Rattle.cells.specs.declared.Field.the-variants.{Is, Refused}
 use Rattle.cells.proofs.Laws.{u32-inv, is, refused, bad-good, good-inj}
@@ -68,7 +68,7 @@ earlier-found s start p i v (suc j) l h e = go (ℕ-discrete i j) (λ k. earlier
     go (no q) ih = rw (ih (omega arith))
 
 abbrev next : List ℕ → List (List ℕ) → ℕ → List Criterion → ℕ → Out (Criterion × ℕ)
-next s strs rows before = criterion s strs rows (stands before)
+next s strs rows before = reading-criterion s strs rows (stands before)
 
 pub record CritHead (s : List ℕ) (strs : List (List ℕ)) (rows n start at j : ℕ) : Type 0 where
   pub count : j ≤ n
@@ -94,17 +94,17 @@ module _ (s : List ℕ) (strs : List (List ℕ)) (rows n start : ℕ) where
       stop m q h = sym (ap ends (hd .so-far ∙ many-bad (next s strs rows) n j at (hd .read) m q l h))
 
       pub crit-cut : (m q : ℕ) → f ≡ Refused m q → Read (field-out f)
-      unfolding criterion
+      unfolding reading-criterion
       crit-cut m q g = ap field-out g ∙ stop m q (rw (refused e g))
 
       module _ (p : ℕ) (g : f ≡ Is p) where
         pub crit-repeat : earlier s start j p ≡ true → Read (bad 6 at)
-        unfolding criterion
+        unfolding reading-criterion
         crit-repeat t = stop 6 at (rw (is e g, hd .known p, t))
 
         module _ (t : earlier s start j p ≡ false) (r : Field) (er : field-out r ≡ ends (rest s strs rows (long s at) at)) where
           after : next s strs rows (hd .read) at ≡ rest s strs rows (long s at) at
-          unfolding criterion
+          unfolding reading-criterion
           after = rw (is e g, hd .known p, t, u32-inv s at p (is e g) .1)
 
           pub crit-bad : (m q : ℕ) → r ≡ Refused m q → Read (field-out r)

@@ -6,12 +6,12 @@ use mathlib.Core.Bool.{Bool, true, false}
 use mathlib.Core.List.{List}
 use lib.Dec.{leb, eqb}
 use borrow.Author.Tests.{eq-eqb, ne-eqb, le-leb, lt-leb, leb-true, leb-false}
-use Rattle.cells.specs.Out.{Out, good, bad, _>>=_, _>>_}
-use Rattle.cells.specs.Places.{u16, limited, exactly, named, named-or-absent, ends}
-use Rattle.entries.specs.Places.{row-start, right-count, row-count, trigger, rest}
+use Rattle.cells.specs.Inner.Out.{Out, good, bad, _>>=_, _>>_}
+use Rattle.cells.specs.Inner.Places.{u16, limited, exactly, named, named-or-absent, ends}
+use Rattle.entries.specs.Inner.Places.{row-start, right-count, row-count, trigger, rest}
 use Rattle.entries.specs.declared.Trigger.{Trigger}
-use Rattle.cells.specs.Answers.{field-out}
-use Rattle.entries.specs.Answers.{check-out, passed}
+use Rattle.cells.specs.Inner.Answers.{field-out}
+use Rattle.entries.specs.Inner.Answers.{check-out, passed}
 use Rattle.cells.specs.declared.Field.{Field}
 use Rattle.cells.specs.declared.Field.the-variants.{Is, Refused}
 use Rattle.cells.proofs.Laws.{is, refused, bad-good}

@@ -7,9 +7,9 @@ use mathlib.Core.Bool.{Bool, true, false, not, cond, _||_}
 use mathlib.Core.List.{List, [], _∷_, _++_, append-nil, append-assoc}
 use lib.ListN.{length, getD}
 use lib.Dec.{leb, ltb, eqb}
-use Rattle.cells.specs.Out.{Out, good, bad, _>>=_, _>>_, must}
-use Rattle.cells.specs.Places.{byte, word, whole, u8, u16, u32, limited, many, named, named-or-absent, exactly, usable, absent, ends}
-use Rattle.entries.specs.Places.{first-of-row, second-of-row, row, reading-rows, member, follows, reading-members, row-start, right-count, row-count, trigger, rest, criterion, stands, reading-criteria, spaced, row-numbers, member-numbers, trigger-numbers, criterion-numbers}
+use Rattle.cells.specs.Inner.Out.{Out, good, bad, _>>=_, _>>_, must}
+use Rattle.cells.specs.Inner.Places.{byte, word, whole, u8, u16, u32, limited, many, named, named-or-absent, exactly, usable, absent, ends}
+use Rattle.entries.specs.Inner.Places.{first-of-row, second-of-row, reading-row, reading-rows, reading-member, follows, reading-members, row-start, right-count, row-count, trigger, rest, reading-criterion, stands, reading-criteria, spaced, row-numbers, member-numbers, trigger-numbers, criterion-numbers}
 use Rattle.entries.specs.declared.Row.{Row}
 use Rattle.entries.specs.declared.Member.{Member}
 use Rattle.entries.specs.declared.Trigger.{Trigger}
@@ -84,8 +84,8 @@ R s at = Item (row-numbers s) 7 at
 item : {A : Type 0} (g : ℕ → A) (w at : ℕ) (a : A) (q : A × ℕ) → good (a, at + w) ≡ good q → a ≡ g at → Item g w at q
 item g w at a q e h = (sym (ap (λ (z : _ × ℕ). z .0) (good-inj e)) ∙ h, sym (ap (λ (z : _ × ℕ). z .1) (good-inj e)))
 
-row-is : (s : List ℕ) (strs : List (List ℕ)) (at : ℕ) (q : Row × ℕ) → row s strs at ≡ good q → R s at q
-unfolding row
+row-is : (s : List ℕ) (strs : List (List ℕ)) (at : ℕ) (q : Row × ℕ) → reading-row s strs at ≡ good q → R s at q
+unfolding reading-row
 row-is s strs at =
     gives (R s at) (limited s at 1) _ λ a₁ e₁. gives (R s at) (limited s (at + 1) 4) _ λ k e₂. gives (R s at) (first-of-row s strs k (at + 2)) _
     λ a₃ e₃. gives (R s at) (second-of-row s strs k (at + 4)) _ λ a₄ e₄. gives (R s at) (limited s (at + 6) 6) _
@@ -95,8 +95,8 @@ row-is s strs at =
 abbrev M : List ℕ → ℕ → Member × ℕ → Type 0
 M s at = Item (member-numbers s) 4 at
 
-member-is : (s : List ℕ) (rows : ℕ) (ok : ℕ → ℕ → Bool) (at : ℕ) (q : Member × ℕ) → member s rows ok at ≡ good q → M s at q
-unfolding member
+member-is : (s : List ℕ) (rows : ℕ) (ok : ℕ → ℕ → Bool) (at : ℕ) (q : Member × ℕ) → reading-member s rows ok at ≡ good q → M s at q
+unfolding reading-member
 member-is s rows ok at =
     gives (M s at) (u16 s at) _ λ r e₁. after (M s at) (must (ltb r rows) 4 at) _ (gives (M s at) (u16 s (at + 2)) _ λ g e₂. after (M s at) (must (ok r g) 4 at) _
     λ q e. item (member-numbers s) 4 at _ q e (rw (u16-is s at r e₁, u16-is s (at + 2) g e₂)))
@@ -111,8 +111,8 @@ trigger-is s rows at =
 abbrev C : List ℕ → ℕ → Criterion × ℕ → Type 0
 C s at = Item (criterion-numbers s) 15 at
 
-criterion-is : (s : List ℕ) (strs : List (List ℕ)) (rows : ℕ) (ok : ℕ → Bool) (at : ℕ) (q : Criterion × ℕ) → criterion s strs rows ok at ≡ good q → C s at q
-unfolding criterion rest
+criterion-is : (s : List ℕ) (strs : List (List ℕ)) (rows : ℕ) (ok : ℕ → Bool) (at : ℕ) (q : Criterion × ℕ) → reading-criterion s strs rows ok at ≡ good q → C s at q
+unfolding reading-criterion rest
 criterion-is s strs rows ok at =
     gives (C s at) (u32 s at) _ λ p e₀. after (C s at) (must (not (ok p)) 6 at) _ (gives (C s at) (limited s (at + 4) 2) _ λ a₁ e₁. gives (C s at) (trigger s rows (at + 5)) _
     λ t e₂. gives (C s at) (named s strs 0 (at + 10)) _ λ a₃ e₃. gives (C s at) (limited s (at + 12) 2) _ λ a₄ e₄. gives (C s at) (named-or-absent s strs 5 (at + 13)) _

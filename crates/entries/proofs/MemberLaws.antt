@@ -5,11 +5,11 @@ use mathlib.Core.Bool.{Bool, true, false}
 use mathlib.Core.List.{List}
 use lib.Dec.{ltb}
 use borrow.Author.Tests.{eq-eqb, ne-eqb, lt-ltb, le-ltb}
-use Rattle.cells.specs.Out.{Out, good, bad, _>>=_}
-use Rattle.cells.specs.Places.{u16}
-use Rattle.entries.specs.Places.{member, comes}
+use Rattle.cells.specs.Inner.Out.{Out, good, bad, _>>=_}
+use Rattle.cells.specs.Inner.Places.{u16}
+use Rattle.entries.specs.Inner.Places.{reading-member, comes}
 use Rattle.entries.specs.declared.Member.{Member}
-use Rattle.cells.specs.Answers.{field-out}
+use Rattle.cells.specs.Inner.Answers.{field-out}
 use Rattle.cells.specs.declared.Field.{Field}
 use Rattle.cells.specs.declared.Field.the-variants.{Is, Refused}
 use Rattle.cells.proofs.Laws.{is, refused}
@@ -29,30 +29,30 @@ module _ (k row group r g : ℕ) where
 
 module _ (s : List ℕ) (rows k row group at : ℕ) where
   abbrev Read : Out (Member × ℕ) → Type 0
-  Read o = o ≡ member s rows (comes k row group) at
+  Read o = o ≡ reading-member s rows (comes k row group) at
 
   module _ (f : Field) (e : field-out f ≡ u16 s at) where
     pub member-1 : (m q : ℕ) → f ≡ Refused m q → Read (bad m q)
-    unfolding member
+    unfolding reading-member
     member-1 m q h = rw (refused e h)
 
     module _ (r : ℕ) (h : f ≡ Is r) where
       pub member-out : rows ≤ r → Read (bad 4 at)
-      unfolding member
+      unfolding reading-member
       member-out l = rw (is e h, le-ltb r rows l)
 
       module _ (l : r < rows) (f₂ : Field) (e₂ : field-out f₂ ≡ u16 s (at + 2)) where
         pub member-2 : (m q : ℕ) → f₂ ≡ Refused m q → Read (bad m q)
-        unfolding member
+        unfolding reading-member
         member-2 m q h₂ = rw (is e h, lt-ltb r rows l, refused e₂ h₂)
 
         module _ (g : ℕ) (h₂ : f₂ ≡ Is g) (b : Bool) (eb : b ≡ comes k row group r g) where
           pub member-falls : b ≡ false → Read (bad 4 at)
-          unfolding member
+          unfolding reading-member
           member-falls t = rw (is e h, lt-ltb r rows l, is e₂ h₂, ← eb, t)
 
           pub member-yes : b ≡ true → Read (good (record { row = r; group = g }, at + 4))
-          unfolding member
+          unfolding reading-member
           member-yes t = rw (is e h, lt-ltb r rows l, is e₂ h₂, ← eb, t)
 
 pub ruleset coming = (comes-first, comes-row, comes-group, comes-not)

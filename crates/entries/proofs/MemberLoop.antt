@@ -10,11 +10,11 @@ use lib.ListN.{length, getD, set, replicate, length-set, length-replicate, getD-
 use lib.Seq.{getD-set-same, getD-set-other}
 use lib.Dec.{ltb, eqb}
 use borrow.Author.Tests.{eq-eqb, ne-eqb, le-leb, lt-leb, ltb-true}
-use Rattle.cells.specs.Out.{Out, good, bad, _>>=_}
-use Rattle.cells.specs.Places.{many, u16}
-use Rattle.entries.specs.Places.{member, reading-members, follows, comes, after, has, placed}
+use Rattle.cells.specs.Inner.Out.{Out, good, bad, _>>=_}
+use Rattle.cells.specs.Inner.Places.{many, u16}
+use Rattle.entries.specs.Inner.Places.{reading-member, reading-members, follows, comes, after, has, placed}
 use Rattle.entries.specs.declared.Member.{Member}
-use Rattle.entries.specs.Answers.{pair-out, Counted}
+use Rattle.entries.specs.Inner.Answers.{pair-out, Counted}
 use Rattle.cells.specs.declared.Field.the-variants.{Is, Refused}
 use Rattle.entries.specs.declared.Pair.{Pair}
 use Rattle.entries.specs.declared.Pair.the-variants.{Both}
@@ -48,8 +48,8 @@ tally-snoc counts l m n e i t j lj = go (ℕ-discrete j (m .row))
         getD-set-other counts (m .row) j _ 0 q
         ∙ omega (arith, t j lj, rw (ne-eqb (m .row) j (λ z. q (sym z))) at (has-snoc l m j))
 
-member-row : (s : List ℕ) (rows at : ℕ) (ok : ℕ → ℕ → Bool) (m : Member) (e : ℕ) → member s rows ok at ≡ good (m, e) → m .row < rows
-unfolding member
+member-row : (s : List ℕ) (rows at : ℕ) (ok : ℕ → ℕ → Bool) (m : Member) (e : ℕ) → reading-member s rows ok at ≡ good (m, e) → m .row < rows
+unfolding reading-member
 member-row s rows at ok m e q =
     let (r, q₁, q₂) = bind-inv (u16 s at) _ (m, e) q in
     let h = must-inv (ltb r rows) 4 at _ (m, e) q₂ in
@@ -59,7 +59,7 @@ member-row s rows at ok m e q =
     omega (arith, ltb-true r rows (h .0))
 
 abbrev next : List ℕ → ℕ → List Member → ℕ → Out (Member × ℕ)
-next s rows before = member s rows (follows before)
+next s rows before = reading-member s rows (follows before)
 
 pub record MemberHead (s : List ℕ) (rows n start : ℕ) (counts : List ℕ) (at row group k : ℕ) : Type 0 where
   pub count : k ≤ n
@@ -86,10 +86,10 @@ module _ (s : List ℕ) (rows n start : ℕ) where
   }
 
   module _ (counts : List ℕ) (at row group k : ℕ) (hd : MemberHead s rows n start counts at row group k) where
-    same : (o : Out (Member × ℕ)) → o ≡ member s rows (comes k row group) at → next s rows (hd .read) at ≡ o
-    same o e = ap (λ (t : ℕ → ℕ → Bool). member s rows t at) (fun-ext (λ r. fun-ext (λ g. hd .last r g))) ∙ sym e
+    same : (o : Out (Member × ℕ)) → o ≡ reading-member s rows (comes k row group) at → next s rows (hd .read) at ≡ o
+    same o e = ap (λ (t : ℕ → ℕ → Bool). reading-member s rows t at) (fun-ext (λ r. fun-ext (λ g. hd .last r g))) ∙ sym e
 
-    module _ (p : Pair) (e : pair-out at p ≡ member s rows (comes k row group) at) where
+    module _ (p : Pair) (e : pair-out at p ≡ reading-member s rows (comes k row group) at) where
       pub in-table : (r g : ℕ) → p ≡ Both r g → r < rows
       in-table r g h = member-row s rows at (comes k row group) _ _ (sym e ∙ ap (pair-out at) h)
 

@@ -2,8 +2,8 @@
 use mathlib.Core.Path.{_≡_, ap, ap₂, _∙_}
 use Prim.Native.Nat.{ℕ, _+_, _<_}
 use mathlib.Core.List.{List}
-use Rattle.cells.specs.Places.{byte, word, long}
-use Rattle.entries.specs.Places.{row-numbers, member-numbers, trigger-numbers, criterion-numbers}
+use Rattle.cells.specs.Inner.Places.{byte, word, long}
+use Rattle.entries.specs.Inner.Places.{row-numbers, member-numbers, trigger-numbers, criterion-numbers}
 use Rattle.entries.specs.declared.Row.{Row}
 use Rattle.entries.specs.declared.Member.{Member}
 use Rattle.entries.specs.declared.Trigger.{Trigger}

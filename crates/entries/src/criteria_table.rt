@@ -1,10 +1,10 @@
 // Section four: the criteria.
 ghost use mathlib.Core.Path.{_≡_};
 ghost use Prim.Native.Nat.{_≤_};
-ghost use Rattle.cells.specs.Places.{texts, ends, long};
-ghost use Rattle.entries.specs.Places.{row-start, right-count, row-count, trigger, rest, reading-criteria};
-ghost use Rattle.cells.specs.Answers.{field-out, Known};
-ghost use Rattle.entries.specs.Answers.{check-out, passed};
+ghost use Rattle.cells.specs.Inner.Places.{texts, ends, long};
+ghost use Rattle.entries.specs.Inner.Places.{row-start, right-count, row-count, trigger, rest, reading-criteria};
+ghost use Rattle.cells.specs.Inner.Answers.{field-out, Known};
+ghost use Rattle.entries.specs.Inner.Answers.{check-out, passed};
 use cells::Field;
 use cells::exactly_at;
 use cells::index_at;

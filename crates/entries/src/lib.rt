@@ -2,7 +2,7 @@
 ghost use mathlib.Core.Path.{_≡_};
 ghost use Prim.Native.Nat.{_+_, _≤_};
 ghost use lib.ListN.{length};
-ghost use Rattle.entries.specs.Places.{row-numbers, member-numbers, trigger-numbers, criterion-numbers};
+ghost use Rattle.entries.specs.Inner.Places.{row-numbers, member-numbers, trigger-numbers, criterion-numbers};
 
 mod criteria_table;
 mod memberships;

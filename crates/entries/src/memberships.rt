@@ -2,8 +2,8 @@
 ghost use mathlib.Core.Path.{_≡_};
 ghost use Prim.Native.Nat.{_≤_};
 ghost use lib.ListN.{getD, replicate};
-ghost use Rattle.entries.specs.Places.{row, member, comes, placed};
-ghost use Rattle.entries.specs.Answers.{pair-out, check-out, Counted};
+ghost use Rattle.entries.specs.Inner.Places.{reading-member, comes, placed};
+ghost use Rattle.entries.specs.Inner.Answers.{pair-out, check-out, Counted};
 use crate::Pair;
 use cells::Field;
 use cells::word_at;
@@ -27,7 +27,7 @@ fn comes_after(k: usize, row: usize, group: usize, r: usize, g: usize) -> bool
 // The membership at `at`, before which k stand, the last of them (row, group).
 fn member_at(s: &[u8], rows: usize, k: usize, row: usize, group: usize, at: usize) -> Pair
     requires { ⌜ at ≤ 150000 ⌝ }
-    ensures { λ r. ⌜ pair-out at r ≡ member (now (s .entry)) rows (comes k row group) at ⌝ }
+    ensures { λ r. ⌜ pair-out at r ≡ reading-member (now (s .entry)) rows (comes k row group) at ⌝ }
 {
     match word_at(s, at) {
         Field::Is(r) => {

@@ -1,9 +1,9 @@
 // Section two: the trigger rows.
 ghost use mathlib.Core.Path.{_≡_};
 ghost use Prim.Native.Nat.{_≤_};
-ghost use Rattle.entries.specs.Places.{reading-rows, first-of-row, second-of-row, row};
-ghost use Rattle.cells.specs.Places.{texts, ends};
-ghost use Rattle.cells.specs.Answers.{field-out, Known};
+ghost use Rattle.entries.specs.Inner.Places.{reading-rows, first-of-row, second-of-row, reading-row};
+ghost use Rattle.cells.specs.Inner.Places.{texts, ends};
+ghost use Rattle.cells.specs.Inner.Answers.{field-out, Known};
 use cells::Field;
 use cells::count_at;
 use cells::exactly_at;
@@ -54,7 +54,7 @@ fn row_second(
 // A whole row at `at`: where it ends, or the refusal.
 fn row_at(s: &[u8], table: &[u16; 1024], uses: &[u8; 1024], n: usize, at: usize) -> Field
     requires { ⌜ (at ≤ 65520) × Known (now s) n (now table) (now uses) ⌝ }
-    ensures { λ r. ⌜ field-out r ≡ ends (row (now (s .entry)) (texts (now (s .entry)) n (now (table .entry))) at) ⌝ }
+    ensures { λ r. ⌜ field-out r ≡ ends (reading-row (now (s .entry)) (texts (now (s .entry)) n (now (table .entry))) at) ⌝ }
 {
     let negated = up_to(s, at, 1);
     let Field::Is(_) = negated else {

@@ -17,11 +17,11 @@ use Rattle.octets.proofs.Bits.{shl-one, Mask, mask-none, mask-skip, mask-add}
 use Rattle.profile.specs.Image.{Member, Criterion, Profile}
 use Rattle.request.specs.Request.{Request}
 use Rattle.rows.specs.declared.Given.{Given}
-use Rattle.trials.specs.Trying.{most-trials}
+use Rattle.trials.specs.Inner.Trying.{most-trials}
 use Rattle.trials.specs.declared.Verdict.{Verdict}
 use Rattle.fitting.specs.Fitting.{by-form, cnf, dnf, part-fits, memberships, trigger-fits, criterion-fits, trials-at, trials-from, criterion-trials}
-use Rattle.fitting.specs.Trigger.{of-rows, marked, fits-by}
-use Rattle.fitting.specs.Rowwise.{fits-nth, trials-nth, trigger-of, criterion-of, trials-of, tried-of, TriedRow, TriedRows, Considered}
+use Rattle.fitting.specs.Inner.Trigger.{of-rows, marked, fits-by}
+use Rattle.fitting.specs.Inner.Rowwise.{fits-nth, trials-nth, trigger-of, criterion-of, trials-of, tried-of, TriedRow, TriedRows, Considered}
 use Rattle.fitting.specs.declared.Marks.{Marks}
 
 -- ---- tests that agree on a list's members

@@ -13,12 +13,12 @@ use Rattle.octets.proofs.Bits.{low-bit}
 use Rattle.octets.proofs.Tests.{left, right, T-of, not-or}
 use Rattle.fitting.specs.Fitting.{in-rows, cnf, dnf, part-fits}
 use Rattle.profile.proofs.Opened.{spaced-cons, spaced-none, spaced-start}
-use Rattle.cells.specs.Places.{word}
-use Rattle.entries.specs.Places.{member-numbers}
+use Rattle.cells.specs.Inner.Places.{word}
+use Rattle.entries.specs.Inner.Places.{member-numbers}
 use Rattle.entries.specs.declared.Member as declared
 use Rattle.profile.specs.Image.{Member}
-use Rattle.profile.specs.Decoded.{member-from}
-use Rattle.fitting.specs.Trigger.{members-at, of-rows, marked, hit, fits-by, groups-hold, group-hit, hits, holds-at}
+use Rattle.profile.specs.Inner.Decoded.{member-from}
+use Rattle.fitting.specs.Inner.Trigger.{members-at, of-rows, marked, hit, fits-by, groups-hold, group-hit, hits, holds-at}
 
 -- a membership as it is read
 abbrev Numbers : Type 0

@@ -3,20 +3,20 @@ use mathlib.Core.Bool.{Bool, true, false, not}
 use mathlib.Core.Path.{_≡_, sym, ap, _∙_, subst}
 use Prim.Native.Nat.{ℕ, _+_, _*_, _≤_, _<_}
 use mathlib.Core.List.{List}
-use Rattle.profile.specs.Decoded.{criterion-with, criterion-from, profile-in}
+use Rattle.profile.specs.Inner.Decoded.{criterion-with, criterion-from, profile-in}
 use Rattle.profile.specs.Image.{Member, Profile}
-use Rattle.profile.specs.Kept.{Standing, nth-row, nth-criterion}
-use Rattle.entries.specs.Places.{criterion-numbers}
+use Rattle.profile.specs.Inner.Kept.{Standing, nth-row, nth-criterion}
+use Rattle.entries.specs.Inner.Places.{criterion-numbers}
 use Rattle.entries.specs.declared.Criterion.{Criterion}
 use Rattle.profile.specs.declared.Layout.{Layout}
 use Rattle.profile.proofs.Standings.{row-is, members-are, fine-as}
 use Rattle.request.specs.Request.{Request}
-use Rattle.rows.specs.Tried.{Tried}
+use Rattle.rows.specs.Inner.Tried.{Tried}
 use Rattle.rows.specs.declared.Given.{Given}
 use Rattle.trials.specs.declared.Verdict.{Verdict}
 use Rattle.fitting.specs.Fitting.{part-fits, fits-at, trials-at, criterion-fits, criterion-trials}
-use Rattle.fitting.specs.Rowwise.{fits-nth, trials-nth, criterion-of, tried-of, TriedRow, TriedRows, Considered}
-use Rattle.fitting.specs.Trigger.{members-at, fits-by}
+use Rattle.fitting.specs.Inner.Rowwise.{fits-nth, trials-nth, criterion-of, tried-of, TriedRow, TriedRows, Considered}
+use Rattle.fitting.specs.Inner.Trigger.{members-at, fits-by}
 use Rattle.fitting.specs.declared.Marks.{Marks}
 use Rattle.fitting.proofs.Evaluating.{part-out, part-in, fits-join, tried-join}
 

@@ -6,9 +6,9 @@ use native.Mathlib.Omega.{arith}
 use mathlib.Core.List.{List, [], _∷_, _++_}
 use Rattle.octets.specs.Lists.{pick, only}
 use Rattle.profile.specs.Image.{Member}
-use Rattle.profile.specs.Decoded.{member-from}
+use Rattle.profile.specs.Inner.Decoded.{member-from}
 use Rattle.fitting.specs.Fitting.{by-form}
-use Rattle.fitting.specs.Trigger.{members-at, of-rows, marked, fits-by, Same-rows}
+use Rattle.fitting.specs.Inner.Trigger.{members-at, of-rows, marked, fits-by, Same-rows}
 use Rattle.fitting.proofs.Members.{members-cons, members-start}
 
 module _ (p : Member → Bool) where

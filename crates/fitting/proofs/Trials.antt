@@ -12,7 +12,7 @@ use Rattle.profile.proofs.Accepted.{Fine, Sound}
 use Rattle.request.specs.Request.{Request}
 use Rattle.request.proofs.Few.{Small}
 use Rattle.rows.specs.declared.Given.{Given}
-use Rattle.trials.specs.Trying.{most-trials}
+use Rattle.trials.specs.Inner.Trying.{most-trials}
 use Rattle.rows.proofs.Trials.{row-le}
 use Rattle.fitting.specs.Fitting.{part-fits, trials-at, trials-from, criterion-trials}
 

@@ -17,13 +17,9 @@ use Rattle.rows.specs.declared.Given.{Given}
 abbrev pub in-rows : ℕ → ℕ → ℕ → Bool
 in-rows first count r = leb first r && ltb r (first + count)
 
--- r is one of the criterion's rows
-abbrev pub has-row : Criterion → ℕ → Bool
-has-row c = in-rows (c .first) (c .count)
-
 -- the memberships of the trigger's rows: "Groups belong to one trigger only"
 unfoldable pub memberships : Profile → Criterion → List Member
-memberships p c = only (λ m. has-row c (m .row)) (p .members)
+memberships p c = only (λ m. in-rows (c .first) (c .count) (m .row)) (p .members)
 
 -- the row of that number (an accepted image names no other)
 abbrev pub fits-at : Request → Given → Option Row → Bool

@@ -1,4 +1,3 @@
 pub mod Examples
 pub mod Fitting
-pub mod Rowwise
-pub mod Trigger
+pub mod Inner

@@ -29,7 +29,7 @@ one-report h k = (both (h .number-is) (k .number-is), both (h .state-is) (k .sta
 
 pub one-server : {image : List ℕ} {i n n′ p p′ s s′ l l′ : ℕ} → ServerTo image i n p s l → ServerTo image i n′ p′ s′ l′
     → (n ≡ n′) × (p ≡ p′) × (s ≡ s′) × (l ≡ l′)
-one-server h k = (both (h .number-is) (k .number-is), both (h .place-is) (k .place-is), both (h .start-is) (k .start-is), both (h .length-is) (k .length-is))
+one-server h k = (both (h .number-is) (k .number-is), both (h .place-is) (k .place-is), both (h .start-is) (k .start-is), both (h .size-is) (k .size-is))
 
 pub one-information : {image : List ℕ} {i n n′ p p′ t t′ s s′ l l′ : ℕ} → InformationTo image i n p t s l → InformationTo image i n′ p′ t′ s′ l′
     → (n ≡ n′) × (p ≡ p′) × (t ≡ t′) × (s ≡ s′) × (l ≡ l′)
@@ -38,7 +38,7 @@ one-information h k = (
   both (h .place-is) (k .place-is),
   both (h .present-is) (k .present-is),
   both (h .start-is) (k .start-is),
-  both (h .length-is) (k .length-is),
+  both (h .size-is) (k .size-is),
 )
 
 pub one-advance : {x : Session} {image request : List ℕ} {n n′ s s′ f f′ l l′ d d′ p p′ o o′ c c′ y y′ e e′ t t′ : ℕ}

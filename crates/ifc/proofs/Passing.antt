@@ -9,7 +9,7 @@ use Rattle.session.specs.Session.{Opens, Reports}
 use Rattle.session.specs.declared.Opened.{Opened}
 use Rattle.session.specs.declared.Reported.{Reported}
 use Rattle.session.specs.declared.Session.{Session}
-use Rattle.rows.specs.Tried.{given}
+use Rattle.rows.specs.Rows.{given}
 use Rattle.route.specs.Advance.{Advances}
 use Rattle.listing.specs.Listing.{Lists}
 use Rattle.route.specs.declared.Advanced.{Advanced}
@@ -38,24 +38,24 @@ pub passes-report : {case before forwarded last handling report : ℕ} {a : Repo
     → ReportTo case before forwarded last handling report (a .refusal) (a .session .state)
 passes-report h = record { number-is = ap (λ (x : Reported). x .refusal) (h .answer); state-is = ap (λ (x : Reported). x .session .state) (h .answer) }
 
-pub passes-server : {image : List ℕ} {i : ℕ} {a : Lookup} → Serves image i a → ServerTo image i (a .refusal) (a .place) (a .start) (a .length)
+pub passes-server : {image : List ℕ} {i : ℕ} {a : Lookup} → Serves image i a → ServerTo image i (a .refusal) (a .place) (a .start) (a .size)
 passes-server h =
     record {
       number-is = ap (λ (x : Lookup). x .refusal) (h .answer);
       place-is = ap (λ (x : Lookup). x .place) (h .answer);
       start-is = ap (λ (x : Lookup). x .start) (h .answer);
-      length-is = ap (λ (x : Lookup). x .length) (h .answer);
+      size-is = ap (λ (x : Lookup). x .size) (h .answer);
     }
 
 pub passes-information : {image : List ℕ} {i n : ℕ} {a : Lookup} → Informs image i a → n ≡ as-number (a .present)
-    → InformationTo image i (a .refusal) (a .place) n (a .start) (a .length)
+    → InformationTo image i (a .refusal) (a .place) n (a .start) (a .size)
 passes-information h e =
     record {
       number-is = ap (λ (x : Lookup). x .refusal) (h .answer);
       place-is = ap (λ (x : Lookup). x .place) (h .answer);
       present-is = e ∙ ap (λ (x : Lookup). as-number (x .present)) (h .answer);
       start-is = ap (λ (x : Lookup). x .start) (h .answer);
-      length-is = ap (λ (x : Lookup). x .length) (h .answer);
+      size-is = ap (λ (x : Lookup). x .size) (h .answer);
     }
 
 pub passes-advance : {x : Session} {image request : List ℕ} {a : Advanced}

@@ -7,7 +7,7 @@ use Rattle.octets.specs.Lists.{pick}
 use Rattle.lookups.specs.Lookups.{check, server, information}
 use Rattle.session.specs.Session.{open-session, report-session}
 use Rattle.session.specs.declared.Session.{Session}
-use Rattle.rows.specs.Tried.{given}
+use Rattle.rows.specs.Rows.{given}
 use Rattle.route.specs.Advance.{advance}
 use Rattle.listing.specs.Listing.{listing}
 use Rattle.show.specs.Show.{show}
@@ -41,19 +41,19 @@ pub record ReportTo (case before forwarded last handling report number state : �
   pub state-is : state ≡ report-session (session-of case before forwarded last handling) report .session .state
 
 -- a criterion's server name: its place and length in the image
-pub record ServerTo (image : List ℕ) (criterion number place start length : ℕ) : Type 0 where
+pub record ServerTo (image : List ℕ) (criterion number place start size : ℕ) : Type 0 where
   pub number-is : number ≡ server image criterion .refusal
   pub place-is : place ≡ server image criterion .place
   pub start-is : start ≡ server image criterion .start
-  pub length-is : length ≡ server image criterion .length
+  pub size-is : size ≡ server image criterion .size
 
 -- its service information: whether it is there, its place and length in the image
-pub record InformationTo (image : List ℕ) (criterion number place present start length : ℕ) : Type 0 where
+pub record InformationTo (image : List ℕ) (criterion number place present start size : ℕ) : Type 0 where
   pub number-is : number ≡ information image criterion .refusal
   pub place-is : place ≡ information image criterion .place
   pub present-is : present ≡ as-number (information image criterion .present)
   pub start-is : start ≡ information image criterion .start
-  pub length-is : length ≡ information image criterion .length
+  pub size-is : size ≡ information image criterion .size
 
 -- advance of a session: its four numbers that may change, and the answer's
 pub record AdvanceTo (x : Session) (image request : List ℕ)

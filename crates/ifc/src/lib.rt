@@ -132,14 +132,14 @@ pub extern "C" fn ifc_server(
     criterion: u32,
     place: &mut u32,
     start: &mut u32,
-    length: &mut u32,
+    size: &mut u32,
 ) -> u32
-    ensures { λ r. ⌜ ServerTo (now (image .entry)) criterion r (now (place .exit)) (now (start .exit)) (now (length .exit)) ⌝ }
+    ensures { λ r. ⌜ ServerTo (now (image .entry)) criterion r (now (place .exit)) (now (start .exit)) (now (size .exit)) ⌝ }
 {
     let name = server(image, criterion);
     *place = name.place;
     *start = name.start;
-    *length = name.length;
+    *size = name.size;
     name.refusal
 }
 
@@ -151,15 +151,15 @@ pub extern "C" fn ifc_information(
     place: &mut u32,
     present: &mut u32,
     start: &mut u32,
-    length: &mut u32,
+    size: &mut u32,
 ) -> u32
-    ensures { λ r. ⌜ InformationTo (now (image .entry)) criterion r (now (place .exit)) (now (present .exit)) (now (start .exit)) (now (length .exit)) ⌝ }
+    ensures { λ r. ⌜ InformationTo (now (image .entry)) criterion r (now (place .exit)) (now (present .exit)) (now (start .exit)) (now (size .exit)) ⌝ }
 {
     let info = information(image, criterion);
     *place = info.place;
     *present = one_if(info.present);
     *start = info.start;
-    *length = info.length;
+    *size = info.size;
     info.refusal
 }
 
@@ -173,9 +173,9 @@ pub extern "C" fn ifc_show(
     field: &mut u32,
     value: &mut u32,
     start: &mut u32,
-    length: &mut u32,
+    size: &mut u32,
 ) -> u32
-    ensures { λ r. ⌜ ShowTo (now (image .entry)) (now (request .entry)) row r (now (place .exit)) (now (found .exit)) (now (field .exit)) (now (value .exit)) (now (start .exit)) (now (length .exit)) ⌝ }
+    ensures { λ r. ⌜ ShowTo (now (image .entry)) (now (request .entry)) row r (now (place .exit)) (now (found .exit)) (now (field .exit)) (now (value .exit)) (now (start .exit)) (now (size .exit)) ⌝ }
 {
     let shown = show(image, request, row);
     *place = shown.place;
@@ -183,6 +183,6 @@ pub extern "C" fn ifc_show(
     *field = shown.field;
     *value = shown.value;
     *start = shown.start;
-    *length = shown.size;
+    *size = shown.size;
     shown.refusal
 }

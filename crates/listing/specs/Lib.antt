@@ -1,3 +1,3 @@
 pub mod Examples
+pub mod Inner
 pub mod Listing
-pub mod Tally

@@ -8,17 +8,17 @@ use native.Mathlib.Omega.{arith}
 use mathlib.Core.List.{List}
 use lib.ListN.{length, take, drop, getD, length-map, length-take, length-drop, List·getD-eq-default}
 use Rattle.profile.specs.Image.{Stored}
-use Rattle.cells.specs.Places.{word, text-at}
-use Rattle.profile.specs.Decoded.{stored, stored-in, nothing, string-of}
+use Rattle.cells.specs.Inner.Places.{word, text-at}
+use Rattle.profile.specs.Inner.Decoded.{stored, stored-in, nothing, string-of}
 use Rattle.lookups.specs.Lookups.{the-part, part-of}
-use Rattle.cells.specs.Answers.{Table}
+use Rattle.cells.specs.Inner.Answers.{Table}
 use Rattle.lookups.specs.declared.Lookup.{Lookup}
 use Rattle.profile.proofs.Found.{string-at, part-in}
 use Rattle.cells.proofs.Uses.{taken}
 
 -- where string i stands, and that it is there
 abbrev at-part : ℕ → ℕ → Lookup
-at-part start len = record { refusal = 0; place = 0; present = true; start = start; length = len }
+at-part start len = record { refusal = 0; place = 0; present = true; start = start; size = len }
 
 module _ (s : List ℕ) (n : ℕ) (table : List ℕ) (tb : Table s n table) where
   pub part-none : (i : ℕ) → n ≤ i → at-part 0 0 ≡ the-part (some (string-of (stored-in s n table) i))
@@ -34,5 +34,5 @@ module _ (s : List ℕ) (n : ℕ) (table : List ℕ) (tb : Table s n table) wher
         ap (at-part (o + 2)) (e .0 ∙ sym whole-text) ∙ ap (λ (x : Stored). the-part (some x)) (string-at s n table tb i o h eo)
 
 -- the bytes that are handed back
-pub part-is : (s : List ℕ) (l : Lookup) (a n : ℕ) → a ≡ l .start → n ≡ l .length → take (a + n - a) (drop a s) ≡ part-of s l
+pub part-is : (s : List ℕ) (l : Lookup) (a n : ℕ) → a ≡ l .start → n ≡ l .size → take (a + n - a) (drop a s) ≡ part-of s l
 part-is s l a n e f = rw (add-sub-cancel-left) (ap₂ (λ (x y : ℕ). take y (drop x s)) e f)

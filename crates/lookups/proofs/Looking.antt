@@ -12,10 +12,11 @@ use Rattle.octets.proofs.Each.{each-at}
 use Rattle.profile.specs.Image as image
 use Rattle.profile.specs.Image.{Stored, Judged, accepted, refused}
 use Rattle.profile.specs.Judging.{judge}
-use Rattle.cells.specs.Places.{word}
-use Rattle.profile.specs.Decoded.{layout, strings, stored-in, string-of, criterion-with, criterion-from, profile-in}
-use Rattle.lookups.specs.Lookups.{checked, check, no-part, the-part, look-at, look-judged, its-server, its-information, its-part, server, information, part-of, Checks, Looks, Serves, Informs}
-use Rattle.profile.specs.Kept.{kept, judgement, Judges}
+use Rattle.cells.specs.Inner.Places.{word}
+use Rattle.profile.specs.Inner.Decoded.{layout, strings, stored-in, string-of, criterion-with, criterion-from, profile-in}
+use Rattle.lookups.specs.Lookups.{checked, check, no-part, the-part, look-at, look-judged, its-server, its-information, server, information, part-of, Checks, Serves, Informs}
+use Rattle.lookups.specs.Inner.Looking.{its-part, Looks}
+use Rattle.profile.specs.Inner.Kept.{kept, judgement, Judges}
 use Rattle.profile.specs.declared.Layout.{Layout}
 use Rattle.lookups.specs.declared.Lookup.{Lookup}
 use Rattle.profile.specs.declared.Judgement.{Judgement}
@@ -108,32 +109,32 @@ looks-information s k l a = record { answer = a .answer }
 
 -- ---- what is handed back lies in the image
 
-ends-in : (s : List ℕ) (o : Option Stored) → Ok (Inside s) o → the-part o .start + the-part o .length ≤ length s
+ends-in : (s : List ℕ) (o : Option Stored) → Ok (Inside s) o → the-part o .start + the-part o .size ≤ length s
 ends-in s none h = zero-le
 ends-in s (some x) h = h .ends
 
 look-in : (part : image.Criterion → Option Stored) (s : List ℕ) (n k : ℕ) → ((c : image.Criterion) → Fine s n c → Ok (Inside s) (part c))
-    → (o : Option image.Criterion) → Ok (Fine s n) o → look-at part o .start + look-at part o .length ≤ length s
+    → (o : Option image.Criterion) → Ok (Fine s n) o → look-at part o .start + look-at part o .size ≤ length s
 look-in part s n k f none h = zero-le
 look-in part s n k f (some c) h = ends-in s (part c) (f c h)
 
 judged-in : (part : image.Criterion → Option Stored) (s : List ℕ) (k : ℕ) → ((n : ℕ) (c : image.Criterion) → Fine s n c → Ok (Inside s) (part c))
-    → look-judged part (judge s) k .start + look-judged part (judge s) k .length ≤ length s
+    → look-judged part (judge s) k .start + look-judged part (judge s) k .size ≤ length s
 judged-in part s k f = go (judge s) refl
   where
-    go : (d : Judged) → judge s ≡ d → look-judged part d k .start + look-judged part d k .length ≤ length s
+    go : (d : Judged) → judge s ≡ d → look-judged part d k .start + look-judged part d k .size ≤ length s
     go (refused n place) e = zero-le
     go (accepted p) e =
         look-in part s (length (p .rows)) k (f (length (p .rows))) (getElem? (p .criteria) k)
         (each-at (Fine s (length (p .rows))) (p .criteria) k (accepted-sound s p e .fine))
 
-pub server-in : (s : List ℕ) (k : ℕ) (l : Lookup) → Serves s k l → l .start + l .length ≤ length s
+pub server-in : (s : List ℕ) (k : ℕ) (l : Lookup) → Serves s k l → l .start + l .size ≤ length s
 unfolding server
-server-in s k l h = subst (λ (x : Lookup). x .start + x .length ≤ length s) (sym (h .answer)) (judged-in its-server s k (λ n c f. f .server-in))
+server-in s k l h = subst (λ (x : Lookup). x .start + x .size ≤ length s) (sym (h .answer)) (judged-in its-server s k (λ n c f. f .server-in))
 
-pub information-in : (s : List ℕ) (k : ℕ) (l : Lookup) → Informs s k l → l .start + l .length ≤ length s
+pub information-in : (s : List ℕ) (k : ℕ) (l : Lookup) → Informs s k l → l .start + l .size ≤ length s
 unfolding information
-information-in s k l h = subst (λ (x : Lookup). x .start + x .length ≤ length s) (sym (h .answer)) (judged-in its-information s k (λ n c f. f .info-in))
+information-in s k l h = subst (λ (x : Lookup). x .start + x .size ≤ length s) (sym (h .answer)) (judged-in its-information s k (λ n c f. f .info-in))
 
 -- the bytes of the definition's part
 pub server-bytes : (s : List ℕ) (k : ℕ) (l : Lookup) (r : List ℕ) → Serves s k l → r ≡ part-of s l → r ≡ part-of s (server s k)

@@ -17,7 +17,7 @@ pub data Example : Type 0 where
   no-such : List ℕ → ℕ → Example
 
 abbrev stands : Lookup → Bool → ℕ → ℕ → Bool
-stands l present start len = eqb (l .refusal) 0 && agree present (l .present) && eqb (l .start) start && eqb (l .length) len
+stands l present start len = eqb (l .refusal) 0 && agree present (l .present) && eqb (l .start) start && eqb (l .size) len
 
 unfoldable pub right : Example → Bool
 unfolding server information

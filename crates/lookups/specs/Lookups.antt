@@ -1,5 +1,5 @@
 -- What the check of an image and the lookups of a criterion's server name and service information answer.
-use mathlib.Core.Bool.{Bool, true, false}
+use mathlib.Core.Bool.{true, false}
 use mathlib.Core.Option.{Option, none, some}
 use mathlib.Core.Path.{_≡_}
 use Prim.Native.Nat.{ℕ}
@@ -26,12 +26,12 @@ check image = checked (judge image)
 
 -- "Refused or absent gives an empty part"; present is "no if refused"
 abbrev pub no-part : ℕ → ℕ → Lookup
-no-part n place = record { refusal = n; place = place; present = false; start = 0; length = 0 }
+no-part n place = record { refusal = n; place = place; present = false; start = 0; size = 0 }
 
 -- "handed back as that part of the lent image"
 abbrev pub the-part : Option Stored → Lookup
 the-part none = no-part 0 0
-the-part (some x) = record { refusal = 0; place = 0; present = true; start = x .start; length = length (x .bytes) }
+the-part (some x) = record { refusal = 0; place = 0; present = true; start = x .start; size = length (x .bytes) }
 
 -- number 13, "no such criterion"
 abbrev pub look-at : (Criterion → Option Stored) → Option Criterion → Lookup
@@ -51,11 +51,6 @@ its-server c = some (c .server)
 abbrev pub its-information : Criterion → Option Stored
 its-information c = c .info
 
--- either of them
-abbrev pub its-part : Bool → Criterion → Option Stored
-its-part true = its-information
-its-part false = its-server
-
 -- "A criterion's server name"
 unfoldable pub server : List ℕ → ℕ → Lookup
 unfolding judge
@@ -68,17 +63,13 @@ information image i = look-judged its-information (judge image) i
 
 -- the bytes that a lookup hands back
 abbrev pub part-of : List ℕ → Lookup → List ℕ
-part-of image l = take (l .length) (drop (l .start) image)
+part-of image l = take (l .size) (drop (l .start) image)
 
 -- ---- what the contracts cite
 
 -- check answers a
 pub record Checks (image : List ℕ) (a : Checked) : Type 0 where
   pub answer : a ≡ check image
-
--- the lookup of either part of criterion i answers a
-pub record Looks (information : Bool) (image : List ℕ) (i : ℕ) (a : Lookup) : Type 0 where
-  pub answer : a ≡ look-judged (its-part information) (judge image) i
 
 -- the server lookup of criterion i answers a
 pub record Serves (image : List ℕ) (i : ℕ) (a : Lookup) : Type 0 where

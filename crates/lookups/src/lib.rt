@@ -4,10 +4,11 @@ ghost use mathlib.Core.Option.{some};
 ghost use Prim.Native.Nat.{_+_, _≤_};
 ghost use lib.ListN.{length};
 ghost use Rattle.octets.specs.Lists.{pick};
-ghost use Rattle.cells.specs.Answers.{Table};
-ghost use Rattle.profile.specs.Decoded.{stored-in, string-of};
-ghost use Rattle.entries.specs.Places.{criterion-numbers};
-ghost use Rattle.lookups.specs.Lookups.{no-part, the-part, part-of, server as server-of, information as information-of, Checks, Looks, Serves, Informs};
+ghost use Rattle.cells.specs.Inner.Answers.{Table};
+ghost use Rattle.profile.specs.Inner.Decoded.{stored-in, string-of};
+ghost use Rattle.entries.specs.Inner.Places.{criterion-numbers};
+ghost use Rattle.lookups.specs.Lookups.{no-part, the-part, part-of, server as server-of, information as information-of, Checks, Serves, Informs};
+ghost use Rattle.lookups.specs.Inner.Looking.{Looks};
 
 // What the check of an image answers: the refusal number (0 if none) and its place.
 pub struct Checked {
@@ -21,7 +22,7 @@ pub struct Lookup {
     pub place: u32,
     pub present: bool,
     pub start: u32,
-    pub length: u32,
+    pub size: u32,
 }
 
 pub fn check(image: &[u8]) -> Checked
@@ -42,7 +43,7 @@ fn no_part_with(refusal: u32, place: u32) -> Lookup
         place,
         present: false,
         start: 0,
-        length: 0,
+        size: 0,
     }
 }
 
@@ -57,7 +58,7 @@ fn stored_part(s: &[u8], table: &[u16; 1024], n: usize, i: usize) -> Lookup
             place: 0,
             present: true,
             start: 0,
-            length: 0,
+            size: 0,
         };
     }
     let o = octets::from_word(table[i]);
@@ -67,7 +68,7 @@ fn stored_part(s: &[u8], table: &[u16; 1024], n: usize, i: usize) -> Lookup
         place: 0,
         present: true,
         start: (o + 2) as u32,
-        length: n as u32,
+        size: n as u32,
     }
 }
 
@@ -118,11 +119,11 @@ pub fn information(image: &[u8], criterion: u32) -> Lookup
 
 // A lookup's part of the image, no copy.
 fn part<'a>(image: &'a [u8], l: Lookup) -> &'a [u8]
-    requires { ⌜ l .start + l .length ≤ length (now image) ⌝ }
+    requires { ⌜ l .start + l .size ≤ length (now image) ⌝ }
     ensures { λ r. ⌜ now r ≡ part-of (now (image .entry)) l ⌝ }
 {
     let a = l.start as usize;
-    let e = a + l.length as usize;
+    let e = a + l.size as usize;
     &image[a..e]
 }
 

@@ -7,7 +7,7 @@ use Prim.Native.Nat.{ℕ, suc, _+_, _<_}
 use lib.Dec.{T}
 use lib.ListN.{drop}
 use lib.Seq.{getD-drop}
-use Rattle.machine.specs.Machine.{Machine, Live, live-end, live-on, Starts, starts-none, starts-live, StartsAt, Bytes}
+use Rattle.machine.specs.Inner.Machine.{Machine, Live, live-end, live-on, Starts, starts-none, starts-live, StartsAt, Bytes}
 
 pub record Agree (M N : Machine) : Type 0 where
   pub first : (a : Bool) (p : ℕ) → M .first a p ≡ N .first a p

@@ -10,11 +10,12 @@ use lib.Dec.{T, eqb, ltb}
 use lib.ListN.{length, getD, drop}
 use lib.Seq.{drop-length}
 use borrow.Author.Tests.{ltb-true, ltb-false, lt-ltb, eq-eqb, ne-eqb, eqb-true, not-true, not-false}
-use Rattle.octets.specs.Bits.{bit, Below}
+use Rattle.octets.specs.Bits.{bit}
+use Rattle.octets.specs.Inner.Masks.{Below}
 use Rattle.octets.specs.Lists.{empty}
 use Rattle.octets.proofs.Bits.{bit-zero, bit-and, bit-drop, bit-inside, below-wider, lowest-set, lowest-drop, or-none-left, or-none-right}
 use Rattle.octets.proofs.Tests.{T-of, is-true, not-T-of, both, left, right, or-right, or-cases, or-neither}
-use Rattle.machine.specs.Machine.{Machine, Live, live-end, live-on, Starts, starts-none, starts-live, StartsAt, Found, first-mask, last-mask, null-at, null-somewhere, in-set, has, machine-of, Closed, Stepped, SomeMet, Only, Shut, LastMet}
+use Rattle.machine.specs.Inner.Machine.{Machine, Live, live-end, live-on, Starts, starts-none, starts-live, StartsAt, Found, first-mask, last-mask, null-at, null-somewhere, in-set, has, machine-of, Closed, Stepped, SomeMet, Only, Shut, LastMet}
 use Rattle.machine.specs.declared.Shape.{Shape}
 use Rattle.machine.proofs.Places.{drop-at, empty-at}
 use Rattle.machine.proofs.Scan.{Scan, dead, met-has, has-met, scan-below, candidate-live, live-candidate, found-hit, found-miss, found-end, found-first-miss, found-neither, found-none, tested}

@@ -7,7 +7,7 @@ use native.Mathlib.Omega.{arith}
 use lib.Dec.{ltb}
 use lib.ListN.{length}
 use borrow.Author.Tests.{ltb-true, ltb-false}
-use Rattle.machine.specs.Machine.{Machine, Leftmost, Found}
+use Rattle.machine.specs.Inner.Machine.{Machine, Leftmost, Found}
 
 module _ (M : Machine) (s : List ℕ) where
   not-before : (a b : ℕ) → Leftmost M s a → Leftmost M s b → b ≤ a

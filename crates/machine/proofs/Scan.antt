@@ -9,11 +9,12 @@ use lib.Dec.{T, eqb, ltb}
 use lib.ListN.{length, getD, drop}
 use lib.Seq.{drop-length}
 use borrow.Author.Tests.{ltb-true, ltb-false, lt-ltb}
-use Rattle.octets.specs.Bits.{bit, Below}
+use Rattle.octets.specs.Bits.{bit}
+use Rattle.octets.specs.Inner.Masks.{Below}
 use Rattle.octets.specs.Lists.{pick, empty}
 use Rattle.octets.proofs.Bits.{bit-zero, bit-or, bit-inside, below-wider, common, share}
 use Rattle.octets.proofs.Tests.{T-of, not-T-of, is-true, both, left, right, or-left, or-right, or-cases}
-use Rattle.machine.specs.Machine.{Machine, Live, live-end, live-on, Starts, starts-none, starts-live, StartsAt, Leftmost, Found, first-mask, last-mask, null-at, has, met, machine-of, Closed, Stepped}
+use Rattle.machine.specs.Inner.Machine.{Machine, Live, live-end, live-on, Starts, starts-none, starts-live, StartsAt, Leftmost, Found, first-mask, last-mask, null-at, has, met, machine-of, Closed, Stepped}
 use Rattle.machine.specs.declared.Shape.{Shape}
 use Rattle.machine.proofs.Places.{drop-at, empty-at}
 

@@ -9,10 +9,11 @@ use lib.Count.{trailingZeros}
 use lib.Dec.{T, eqb, eqb→eq, eqb-refl}
 use lib.ListN.{getD}
 use borrow.Author.Tests.{eqb-true}
-use Rattle.octets.specs.Bits.{bit, Below}
+use Rattle.octets.specs.Bits.{bit}
+use Rattle.octets.specs.Inner.Masks.{Below}
 use Rattle.octets.proofs.Bits.{bit-zero, bit-or, bit-inside, bit-add, bit-drop, drop-lt, lowest-set, lowest-drop, bit-below, shl-one}
 use Rattle.octets.proofs.Tests.{T-of, not-T-of, is-true, both, left, or-left, or-right, or-cases}
-use Rattle.machine.specs.Machine.{has, Stepped, SomeMet}
+use Rattle.machine.specs.Inner.Machine.{has, Stepped, SomeMet}
 
 -- ---- the candidates, one by one
 

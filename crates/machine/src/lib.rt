@@ -7,8 +7,8 @@ ghost use lib.Bits.{bitAnd};
 ghost use lib.Dec.{eqb};
 ghost use lib.ListN.{getD, length};
 ghost use Rattle.octets.specs.Lists.{pick};
-ghost use Rattle.octets.specs.Bits.{Below};
-ghost use Rattle.machine.specs.Machine.{Closed, Stepped, SomeMet, Leftmost, Found, Only, Shut, LastMet, first-mask, last-mask, null-at, null-somewhere, has, machine-of};
+ghost use Rattle.octets.specs.Inner.Masks.{Below};
+ghost use Rattle.machine.specs.Inner.Machine.{Closed, Stepped, SomeMet, Leftmost, Found, Only, Shut, LastMet, first-mask, last-mask, null-at, null-somewhere, has, machine-of};
 
 // How many positions there are, which the matching need not ask (`Closed`); which of them may begin a part, at the text's start or
 // elsewhere; which may end one, at the text's end or elsewhere; and whether the empty part fits: as the whole text, at its start, at its

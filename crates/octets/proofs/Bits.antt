@@ -11,7 +11,8 @@ use lib.Dec.{T, T-not, eqb, ltb, leb}
 use lib.Pow.{pow-pos, pow-lt, pow-mono, pow-add, shl-shr, shr-shr}
 use borrow.Author.Tests.{eq-eqb, ne-eqb, eqb-true, eqb-false, ltb-true, ltb-false, lt-ltb, le-ltb, leb-true, leb-false}
 use borrow.Author.Count.{below-none, below-more}
-use Rattle.octets.specs.Bits.{bit, Below, mask}
+use Rattle.octets.specs.Bits.{bit}
+use Rattle.octets.specs.Inner.Masks.{Below, mask}
 use Rattle.octets.specs.Lists.{pick}
 use Rattle.octets.proofs.Tests.{both, left, right, T-of, is-true}
 

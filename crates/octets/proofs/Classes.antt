@@ -5,7 +5,8 @@ use mathlib.Core.List.{List, [], _∷_}
 use Prim.Native.Nat.{ℕ, _<_}
 use lib.Dec.{T, eqb, eqb→eq}
 use lib.ListN.{getD}
-use Rattle.octets.specs.Bytes.{token-byte, uri-byte, class-of}
+use Rattle.octets.specs.Bytes.{token-byte, uri-byte}
+use Rattle.octets.specs.Inner.Tables.{class-of}
 use Rattle.octets.proofs.Tests.{left, right}
 use Rattle.octets.proofs.Table.{at}
 

@@ -10,7 +10,8 @@ use lib.Seq.{drop-cons}
 use lib.Dec.{eqb}
 use borrow.Author.Tests.{eq-eqb, ne-eqb}
 use Rattle.octets.specs.Lists.{every}
-use Rattle.octets.specs.Bytes.{token-byte, class-of, token}
+use Rattle.octets.specs.Bytes.{token-byte, token}
+use Rattle.octets.specs.Inner.Tables.{class-of}
 use Rattle.octets.proofs.Classes.{rules}
 
 -- token bytes as far as i

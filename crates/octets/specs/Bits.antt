@@ -1,19 +1,8 @@
 -- A number's bits, and the number whose bits a test gives: what masks are stated with.
-use mathlib.Core.Path.{_≡_}
-use mathlib.Core.Bool.{Bool, false}
-use Prim.Native.Nat.{ℕ, zero, suc, _+_, _/_, _%_, _^_, _≤_}
+use mathlib.Core.Bool.{Bool}
+use Prim.Native.Nat.{ℕ, _/_, _%_, _^_}
 use lib.Dec.{eqb}
-use Rattle.octets.specs.Lists.{pick}
 
 -- whether the bit k of n is set
 unfoldable pub bit : ℕ → ℕ → Bool
 bit n k = eqb (n / 2 ^ k % 2) 1
-
--- no bit of n from w on is set
-abbrev pub Below : ℕ → ℕ → Type 0
-Below w n = (k : ℕ) → w ≤ k → bit n k ≡ false
-
--- the number whose bit k, below w, is set where the test holds of k, and which has no other
-unfoldable pub mask : ℕ → (ℕ → Bool) → ℕ
-mask zero f = 0
-mask (suc w) f = pick (f w) (2 ^ w) 0 + mask w f

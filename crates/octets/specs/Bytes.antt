@@ -1,10 +1,8 @@
 -- Bytes: the token rule, white space, and the two case forms of a letter.
 use mathlib.Core.Bool.{Bool, not, _&&_, _||_}
-use mathlib.Core.Path.{_≡_}
-use Prim.Native.Nat.{ℕ, _+_, _-_, _<_}
+use Prim.Native.Nat.{ℕ, _+_, _-_}
 use mathlib.Core.List.{List, [], _∷_}
 use lib.Dec.{leb, eqb}
-use lib.ListN.{getD}
 use Rattle.octets.specs.Lists.{text, pick, every, some-of, empty, same}
 
 -- from lo to hi, both counted
@@ -47,11 +45,3 @@ white b = eqb b 32 || eqb b 9
 -- "URI of one or more bytes 33..126"
 abbrev pub uri-byte : ℕ → Bool
 uri-byte b = within 33 126 b
-
--- "a table of 256 byte classes, one for each byte": 1 token, 2 SP or HTAB, 3 any other of 33..126, 4 128 and up, 0 the rest
-abbrev pub class-of : ℕ → ℕ
-class-of b = pick (token-byte b) 1 (pick (white b) 2 (pick (uri-byte b) 3 (pick (leb 128 b) 4 0)))
-
--- a table that says the class of every byte
-pub record Classes (t : List ℕ) : Type 0 where
-  pub each : (b : ℕ) → b < 256 → getD t b 0 ≡ class-of b

@@ -1,4 +1,5 @@
 pub mod Bits
 pub mod Bytes
+pub mod Inner
 pub mod Lists
 pub mod Option

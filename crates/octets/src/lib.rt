@@ -1,7 +1,8 @@
 // Bytes: their classes, their case forms, and equal bytes; numbers in other widths.
 ghost use mathlib.Core.Path.{_≡_};
 ghost use lib.ListN.{getD};
-ghost use Rattle.octets.specs.Bytes.{class-of, Classes, lower, same-any-case, token};
+ghost use Rattle.octets.specs.Bytes.{lower, same-any-case, token};
+ghost use Rattle.octets.specs.Inner.Tables.{class-of, Classes};
 ghost use Rattle.octets.specs.Lists.{same};
 
 mod widths;

@@ -1,3 +1,3 @@
 pub mod Bare
+pub mod Inner
 pub mod Order
-pub mod Scan

@@ -6,9 +6,9 @@ use Prim.Native.Nat.{ℕ, suc}
 use native.Mathlib.Omega.{arith}
 use lib.Dec.{T, eqb}
 use borrow.Author.Tests.{eqb-true, eqb-false}
-use Rattle.machine.specs.Machine.{Machine, Starts, Bytes}
+use Rattle.machine.specs.Inner.Machine.{Machine, Starts, Bytes}
 use Rattle.machine.proofs.Agreeing.{Agree}
-use Rattle.part.specs.Part.{Runs, runs-end, runs-on, Part, part-none, part-some, Longest}
+use Rattle.part.specs.Inner.Part.{Runs, runs-end, runs-on, Part, part-none, part-some, Longest}
 use Rattle.part.proofs.Lengths.{part-starts}
 
 module _ {M N : Machine} (g : Agree M N) where

@@ -8,15 +8,16 @@ use lib.Bits.{bitAnd, bitOr}
 use lib.Dec.{T, eqb, ltb}
 use lib.ListN.{length, getD, drop, length-drop}
 use borrow.Author.Tests.{ltb-true, ltb-false, eqb-true, eqb-false, eq-eqb, ne-eqb}
-use Rattle.octets.specs.Bits.{bit, Below}
+use Rattle.octets.specs.Bits.{bit}
+use Rattle.octets.specs.Inner.Masks.{Below}
 use Rattle.octets.specs.Lists.{empty}
 use Rattle.octets.proofs.Bits.{Mask, mask-none, mask-add, mask-skip, shl-one, bit-zero, bit-inside, below-wider, common, share}
 use Rattle.octets.proofs.Tests.{T-of, not-T-of, both, left, right}
-use Rattle.machine.specs.Machine.{Machine, first-mask, last-mask, has, machine-of, Closed, Stepped}
+use Rattle.machine.specs.Inner.Machine.{Machine, first-mask, last-mask, has, machine-of, Closed, Stepped}
 use Rattle.machine.specs.declared.Shape.{Shape}
 use Rattle.machine.proofs.Places.{drop-at, empty-at}
 use Rattle.machine.proofs.Scan.{met-has, has-met}
-use Rattle.part.specs.Part.{Runs, runs-end, runs-on, Part, part-some, Longest, After}
+use Rattle.part.specs.Inner.Part.{Runs, runs-end, runs-on, Part, part-some, Longest, After}
 use Rattle.part.proofs.Lengths.{starts-part, part-within, runs-one, runs-more, part-first}
 
 -- ---- the positions behind a live one

@@ -2,8 +2,8 @@
 ghost use Prim.Native.Nat.{_<_, _≤_};
 ghost use lib.Dec.{eqb};
 ghost use lib.ListN.{length, drop};
-ghost use Rattle.machine.specs.Machine.{Closed, machine-of};
-ghost use Rattle.part.specs.Part.{After, Longest};
+ghost use Rattle.machine.specs.Inner.Machine.{Closed, machine-of};
+ghost use Rattle.part.specs.Inner.Part.{After, Longest};
 use machine::Shape;
 use machine::first_of;
 use machine::last_of;

@@ -10,12 +10,12 @@ use borrow.Author.Tests.{ltb-true, ltb-false}
 use Rattle.octets.specs.Bits.{bit}
 use Rattle.octets.specs.Lists.{pick}
 use Rattle.octets.proofs.Bits.{bit-zero, mask-bit}
-use Rattle.machine.specs.Machine.{first-mask, last-mask, in-set, has, met, machine-of, Closed}
+use Rattle.machine.specs.Inner.Machine.{first-mask, last-mask, in-set, has, met, machine-of, Closed}
 use Rattle.machine.proofs.Agreeing.{Agree}
-use Rattle.basic.specs.Sets.{word, words}
+use Rattle.basic.specs.Inner.Sets.{word, words}
 use Rattle.basic.specs.Pattern.{Atom, Elem}
-use Rattle.pattern.specs.Answers.{meet-as}
-use Rattle.pattern.specs.Prepared.{atom-of, no-marks, may-lead, marks, set-as, sets-of, befores, shape-by}
+use Rattle.pattern.specs.Inner.Answers.{meet-as}
+use Rattle.pattern.specs.Inner.Prepared.{atom-of, no-marks, may-lead, marks, set-as, sets-of, befores, shape-by}
 use Rattle.pattern.proofs.Compiled.{met-at, compiled}
 use Rattle.pattern.proofs.Positions.{leads, ends, follows, size-is, free-bit, ends-bit, leads-bit, follows-bit, leads-past, ends-past, precedes-past, follows-past, befores-length}
 

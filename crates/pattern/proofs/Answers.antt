@@ -12,7 +12,7 @@ use borrow.Author.Tests.{eq-eqb}
 use Rattle.octets.proofs.Tests.{both, left, right, T-of, not-T-of}
 use Rattle.basic.specs.Pattern.{Pattern, Fits, Matches}
 use Rattle.basic.specs.Reading.{read-pattern}
-use Rattle.pattern.specs.Answers.{matches-as, read-matches, meets-text, meet-as, fits-from, begins-of, begins-at, first-fit}
+use Rattle.pattern.specs.Inner.Answers.{matches-as, read-matches, meets-text, meet-as, fits-from, begins-of, begins-at, first-fit}
 use Rattle.pattern.specs.Matching.{front}
 use Rattle.pattern.proofs.Finding.{First, first-of-smallest}
 use Rattle.pattern.proofs.Meaning.{front-sound, front-complete, written-iff, name-iff}

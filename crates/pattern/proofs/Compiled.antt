@@ -7,11 +7,11 @@ use Prim.Native.Nat.{ℕ, zero, suc}
 use lib.Dec.{T}
 use Rattle.octets.specs.Lists.{empty}
 use Rattle.octets.proofs.Tests.{both, left, right, or-left, or-right, or-cases}
-use Rattle.machine.specs.Machine.{Machine, Live, live-end, live-on, Starts, starts-none, starts-live}
+use Rattle.machine.specs.Inner.Machine.{Machine, Live, live-end, live-on, Starts, starts-none, starts-live}
 use Rattle.machine.proofs.Scan.{dead}
 use Rattle.basic.specs.Pattern.{Atom, Elem, once, star, Pattern}
 use Rattle.pattern.specs.Matching.{front}
-use Rattle.pattern.specs.Prepared.{atom-of}
+use Rattle.pattern.specs.Inner.Prepared.{atom-of}
 use Rattle.pattern.proofs.Positions.{free, leads, ends, follows}
 
 -- p meets b

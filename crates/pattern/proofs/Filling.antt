@@ -15,12 +15,13 @@ use Rattle.octets.specs.Lists.{pick, peek}
 use Rattle.octets.specs.Option.{_>>=_, holds}
 use Rattle.octets.proofs.Bits.{shl-one}
 use Rattle.machine.specs.declared.Shape.{Shape}
-use Rattle.basic.specs.Reading.{was-read, is-pattern, atom, elem, Body, read-pattern}
+use Rattle.basic.specs.Reading.{atom, elem, Body, read-pattern}
+use Rattle.basic.specs.Inner.Judged.{was-read, is-pattern}
 use Rattle.basic.specs.Pattern.{Atom, Elem}
-use Rattle.basic.specs.Places.{map-got, body-of, start-of, stop-of, PieceAt}
+use Rattle.basic.specs.Inner.Places.{map-got, body-of, start-of, stop-of, PieceAt}
 use Rattle.basic.specs.declared.reader.Piece.{Piece}
 use Rattle.basic.proofs.Elements.{repeats-at, behind-of, with-elem, Step, anchor-at, body-stop, body-more, finished, read-is, count-empty}
-use Rattle.pattern.specs.Prepared.{starred, atom-of, no-marks, may-lead, mark, marks, before-at, set-as, sets-of, befores, shape-by, Ready}
+use Rattle.pattern.specs.Inner.Prepared.{starred, atom-of, no-marks, may-lead, mark, marks, before-at, set-as, sets-of, befores, shape-by, Ready}
 use Rattle.pattern.specs.declared.edition1.Marks.{Marks}
 use Rattle.pattern.proofs.Positions.{befores-length}
 use Rattle.pattern.proofs.Readying.{ready-some}

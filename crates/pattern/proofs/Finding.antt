@@ -10,14 +10,14 @@ use lib.ListN.{length, drop}
 use borrow.Author.Tests.{leb-true, leb-false, eqb-true, eqb-false}
 use Rattle.octets.specs.Lists.{pick}
 use Rattle.octets.proofs.Tests.{left, right, or-left, or-right, or-cases, T-of, not-T-of, is-true, test-cases}
-use Rattle.machine.specs.Machine.{Bytes, Leftmost, Found, machine-of}
+use Rattle.machine.specs.Inner.Machine.{Bytes, Leftmost, Found, machine-of}
 use Rattle.machine.specs.declared.Shape.{Shape}
 use Rattle.machine.proofs.OneAnswer.{leftmost-one}
 use Rattle.basic.specs.Reading.{read-pattern}
 use Rattle.basic.specs.Pattern.{Elem, Pattern}
-use Rattle.pattern.specs.Answers.{matches-as, read-matches, meets-text, meet-as, begins-of, begins-at, smallest, first-fit}
+use Rattle.pattern.specs.Inner.Answers.{matches-as, read-matches, meets-text, meet-as, begins-of, begins-at, smallest, first-fit}
 use Rattle.pattern.specs.Matching.{front, somewhere, matches, written-matches, name-matches}
-use Rattle.pattern.specs.Prepared.{Ready}
+use Rattle.pattern.specs.Inner.Prepared.{Ready}
 
 -- ---- the smallest
 

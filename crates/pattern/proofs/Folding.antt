@@ -14,7 +14,7 @@ use Rattle.octets.specs.Bits.{bit}
 use Rattle.octets.specs.Bytes.{within, lower, upper}
 use Rattle.octets.specs.Lists.{pick}
 use Rattle.octets.proofs.Bits.{bit-and, bit-or, bit-shr, bit-shl, bit-shl-low, bit-ones, mask-bit, mask-lt, mask-of, mask-ext}
-use Rattle.basic.specs.Sets.{word, words}
+use Rattle.basic.specs.Inner.Sets.{word, words}
 use Rattle.basic.proofs.Words.{four-words}
 
 abbrev pub letters : ℕ

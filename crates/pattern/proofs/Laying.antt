@@ -11,16 +11,16 @@ use lib.Seq.{set-set, getD-set-same}
 use borrow.Author.Tests.{ne-eqb}
 use Rattle.octets.specs.Bytes.{lower, upper}
 use Rattle.octets.specs.Lists.{text, pick, some-of}
-use Rattle.basic.specs.Drawn.{drawn}
+use Rattle.basic.specs.Inner.Drawn.{drawn}
 use Rattle.basic.specs.Pattern.{Atom, byte, meets}
-use Rattle.basic.specs.Places.{map-got, PieceAt}
+use Rattle.basic.specs.Inner.Places.{map-got, PieceAt}
 use Rattle.basic.specs.Reading.{Read, read, atom}
-use Rattle.basic.specs.Sets.{word, words}
+use Rattle.basic.specs.Inner.Sets.{word, words}
 use Rattle.basic.specs.declared.reader.Piece.{Piece}
 use Rattle.basic.proofs.Atoms.{piece-found, piece-lost, map-none, map-some, plain-is}
 use Rattle.basic.proofs.Listing.{piece-none, piece-some}
 use Rattle.basic.proofs.Words.{only-words}
-use Rattle.pattern.specs.Prepared.{set-as, LaidAt}
+use Rattle.pattern.specs.Inner.Prepared.{set-as, LaidAt}
 use Rattle.pattern.proofs.Folding.{folded-set}
 
 -- ---- on a name, and as written

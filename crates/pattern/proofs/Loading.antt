@@ -9,11 +9,11 @@ use lib.ListN.{length, getD, set, length-set}
 use borrow.Author.Tests.{eq-eqb, ne-eqb}
 use Rattle.octets.specs.Lists.{pick, peek}
 use Rattle.machine.specs.declared.Shape.{Shape}
-use Rattle.basic.specs.Reading.{is-pattern}
-use Rattle.basic.specs.Places.{start-of, stop-of}
+use Rattle.basic.specs.Inner.Judged.{is-pattern}
+use Rattle.basic.specs.Inner.Places.{start-of, stop-of}
 use Rattle.basic.specs.declared.reader.Piece.{Piece}
 use Rattle.basic.proofs.Elements.{repeats-at, behind-of, stop-inside, stop-before, Counted, count-empty, count-start, count-lost, count-more, count-full, count-done}
-use Rattle.pattern.specs.Prepared.{no-marks, mark, before-at, set-as, shape-by, no-shape, LaidAt, Ready}
+use Rattle.pattern.specs.Inner.Prepared.{no-marks, mark, before-at, set-as, shape-by, no-shape, LaidAt, Ready}
 use Rattle.pattern.specs.declared.edition1.Marks.{Marks}
 use Rattle.pattern.proofs.Filling.{Whole, whole-of, Filling, fill-start, fill-stop, fill-more}
 use Rattle.pattern.proofs.Readying.{ready-none}

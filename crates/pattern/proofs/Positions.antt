@@ -9,11 +9,12 @@ use lib.Bits.{bitOr}
 use lib.Dec.{ltb}
 use lib.ListN.{length, getD}
 use borrow.Author.Tests.{eq-eqb, ne-eqb, ltb-true, ltb-false}
-use Rattle.octets.specs.Bits.{bit, Below}
+use Rattle.octets.specs.Bits.{bit}
+use Rattle.octets.specs.Inner.Masks.{Below}
 use Rattle.octets.specs.Lists.{pick}
 use Rattle.octets.proofs.Bits.{bit-zero, bit-pow, bit-add, bit-cut, below-wider}
 use Rattle.basic.specs.Pattern.{Elem}
-use Rattle.pattern.specs.Prepared.{starred, no-marks, may-lead, mark, before-at, marks, befores}
+use Rattle.pattern.specs.Inner.Prepared.{starred, no-marks, may-lead, mark, before-at, marks, befores}
 use Rattle.pattern.specs.declared.edition1.Marks.{Marks}
 
 -- every element may be left out

@@ -12,16 +12,17 @@ use Rattle.octets.specs.Bits.{bit}
 use Rattle.octets.specs.Lists.{pick}
 use Rattle.octets.proofs.Bits.{bit-zero}
 use Rattle.octets.proofs.Tests.{not-T-of}
-use Rattle.machine.specs.Machine.{Starts, starts-none, starts-live, machine-of}
+use Rattle.machine.specs.Inner.Machine.{Starts, starts-none, starts-live, machine-of}
 use Rattle.machine.specs.declared.Shape.{Shape}
 use Rattle.machine.proofs.Agreeing.{agree-back, bytes-drop, starts-at-agree}
 use Rattle.part.proofs.Alike.{part-agree}
 use Rattle.part.proofs.Lengths.{part-starts}
-use Rattle.basic.specs.Reading.{was-read, is-pattern, read-pattern}
+use Rattle.basic.specs.Reading.{read-pattern}
+use Rattle.basic.specs.Inner.Judged.{was-read, is-pattern}
 use Rattle.basic.specs.Pattern.{Elem, Pattern}
-use Rattle.pattern.specs.Answers.{meet-as, begins-of, begins-at}
+use Rattle.pattern.specs.Inner.Answers.{meet-as, begins-of, begins-at}
 use Rattle.pattern.specs.Parts.{FitsAt}
-use Rattle.pattern.specs.Prepared.{no-marks, may-lead, marks, sets-of, befores, shape-by, no-shape, Ready}
+use Rattle.pattern.specs.Inner.Prepared.{no-marks, may-lead, marks, sets-of, befores, shape-by, no-shape, Ready}
 use Rattle.pattern.proofs.Agreeing.{pattern-agrees, pattern-closed}
 use Rattle.pattern.proofs.Compiled.{starts-iff}
 use Rattle.pattern.proofs.Taken.{taken}

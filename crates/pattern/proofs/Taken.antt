@@ -10,9 +10,9 @@ use lib.Dec.{T, eqb, eqb→eq}
 use lib.ListN.{length, take, drop, length-drop}
 use Rattle.octets.specs.Lists.{empty}
 use Rattle.octets.proofs.Tests.{both, left, right}
-use Rattle.machine.specs.Machine.{Machine, Live, live-end, live-on, Starts, starts-none, starts-live}
+use Rattle.machine.specs.Inner.Machine.{Machine, Live, live-end, live-on, Starts, starts-none, starts-live}
 use Rattle.machine.proofs.Scan.{dead}
-use Rattle.part.specs.Part.{Runs, runs-end, runs-on, Part, part-none, part-some, PartAt}
+use Rattle.part.specs.Inner.Part.{Runs, runs-end, runs-on, Part, part-none, part-some, PartAt}
 use Rattle.part.proofs.Lengths.{part-within}
 use Rattle.pattern.specs.Matching.{front}
 use Rattle.basic.specs.Pattern.{Atom, Elem, Pattern, Fits}

@@ -7,7 +7,8 @@ use Prim.Native.String.{String}
 use mathlib.Core.List.{List, [], _∷_}
 use lib.Dec.{T}
 use Rattle.octets.specs.Lists.{text, every, agree}
-use Rattle.basic.specs.Reading.{was-read, read-pattern}
+use Rattle.basic.specs.Reading.{read-pattern}
+use Rattle.basic.specs.Inner.Judged.{was-read}
 use Rattle.basic.specs.Pattern.{Pattern}
 use Rattle.pattern.specs.Matching.{written-matches, name-matches}
 

@@ -1,5 +1,4 @@
-pub mod Answers
 pub mod Examples
+pub mod Inner
 pub mod Matching
 pub mod Parts
-pub mod Prepared

@@ -3,7 +3,7 @@ ghost use mathlib.Core.Path.{_≡_};
 ghost use mathlib.Core.Bool.{Bool, _||_};
 ghost use Prim.Native.Nat.{ℕ};
 ghost use Rattle.octets.specs.Bytes.{lower, upper};
-ghost use Rattle.basic.specs.Sets.{word, words};
+ghost use Rattle.basic.specs.Inner.Sets.{word, words};
 
 // The lowest 26 bits, one for each letter.
 const LETTERS: u64 = 67108863;

@@ -3,9 +3,9 @@ ghost use mathlib.Core.Path.{_≡_};
 ghost use mathlib.Core.Bool.{Bool};
 ghost use mathlib.Core.List.{List};
 ghost use Prim.Native.Nat.{ℕ};
-ghost use Rattle.machine.specs.Machine.{Closed};
-ghost use Rattle.pattern.specs.Answers.{meets-text, first-fit};
-ghost use Rattle.pattern.specs.Prepared.{Ready};
+ghost use Rattle.machine.specs.Inner.Machine.{Closed};
+ghost use Rattle.pattern.specs.Inner.Answers.{meets-text, first-fit};
+ghost use Rattle.pattern.specs.Inner.Prepared.{Ready};
 
 mod edition1;
 mod fold;

@@ -8,16 +8,17 @@ use native.Mathlib.Omega.{arith}
 use lib.Dec.{eqb, ltb}
 use lib.ListN.{length, drop}
 use borrow.Author.Tests.{ltb-true, ltb-false}
-use Rattle.machine.specs.Machine.{Leftmost, Bytes, machine-of}
+use Rattle.machine.specs.Inner.Machine.{Leftmost, Bytes, machine-of}
 use Rattle.machine.specs.declared.Shape.{Shape}
-use Rattle.part.specs.Part.{PartAt, Longest}
+use Rattle.part.specs.Inner.Part.{PartAt, Longest}
 use Rattle.part.proofs.Lengths.{part-starts}
 use Rattle.basic.specs.Pattern.{Pattern}
 use Rattle.basic.specs.Reading.{read-pattern}
-use Rattle.pattern.specs.Answers.{meet-as}
+use Rattle.pattern.specs.Inner.Answers.{meet-as}
 use Rattle.pattern.specs.Parts.{FitsAt}
-use Rattle.pattern.specs.Prepared.{Ready}
-use Rattle.place.specs.Place.{nowhere, place-read, place-text}
+use Rattle.pattern.specs.Inner.Prepared.{Ready}
+use Rattle.place.specs.Place.{nowhere}
+use Rattle.place.specs.Inner.Texts.{place-read, place-text}
 use Rattle.place.specs.declared.Place.{Place}
 use Rattle.place.proofs.Placing.{place-complete, nowhere-complete}
 

@@ -7,11 +7,12 @@ use Prim.Native.Nat.{ℕ, _+_, _≤_}
 use native.Mathlib.Omega.{arith}
 use lib.ListN.{length}
 use Rattle.octets.specs.Lists.{pick}
-use Rattle.pattern.specs.Answers.{meet-as, matches-as, read-matches, meets-text}
+use Rattle.pattern.specs.Inner.Answers.{meet-as, matches-as, read-matches, meets-text}
 use Rattle.pattern.specs.Matching.{repeated, single-then, front, somewhere, matches, written-matches, name-matches}
 use Rattle.basic.specs.Pattern.{Atom, Elem, once, star, Pattern}
 use Rattle.basic.specs.Reading.{read-pattern}
-use Rattle.place.specs.Place.{longer, one-more, single-far, repeated-far, furthest, nowhere, here-or, first-place, place-of, place-read, place-text}
+use Rattle.place.specs.Place.{longer, one-more, single-far, repeated-far, furthest, nowhere, here-or, first-place, place-of}
+use Rattle.place.specs.Inner.Texts.{place-read, place-text}
 use Rattle.place.specs.declared.Place.{Place}
 use Rattle.place.proofs.Placing.{place-is-best, place-sound}
 

@@ -77,8 +77,8 @@ module _ (Q : List ℕ → ℕ → Type 0) (k : List ℕ → Option ℕ) (ks : (
     quiet = λ e. refl;
   }
 
-  later-best : (b : ℕ) (s : List ℕ) (start length : ℕ) → ((n : ℕ) → Q (b ∷ s) n → ⊥) → Best (On s) (record { found = true; start = start; size = length })
-      → Best (On (b ∷ s)) (record { found = true; start = suc start; size = length })
+  later-best : (b : ℕ) (s : List ℕ) (start len : ℕ) → ((n : ℕ) → Q (b ∷ s) n → ⊥) → Best (On s) (record { found = true; start = start; size = len })
+      → Best (On (b ∷ s)) (record { found = true; start = suc start; size = len })
   later-best b s start len x y = record {
     none = λ e. absurd (true≢false e);
     is = λ e. let q = y .is refl in let l : start ≤ length s = q .0 in (omega arith, q .1);

@@ -5,7 +5,7 @@ use Prim.Native.Nat.{ℕ}
 use Prim.Native.String.{String}
 use lib.Dec.{T, eqb}
 use Rattle.octets.specs.Lists.{text, every, agree}
-use Rattle.place.specs.Place.{place-text}
+use Rattle.place.specs.Inner.Texts.{place-text}
 use Rattle.place.specs.declared.Place.{Place}
 
 -- what a pattern does on a text: it matches at a start with a length, or nowhere
@@ -14,7 +14,7 @@ pub data Example : Type 0 where
   nowhere-on : String → String → Example
 
 abbrev same-place : Place → Bool → ℕ → ℕ → Bool
-same-place r found start length = agree (r .found) found && eqb (r .start) start && eqb (r .size) length
+same-place r found start size = agree (r .found) found && eqb (r .start) start && eqb (r .size) size
 
 unfoldable pub right : Example → Bool
 unfolding place-text

@@ -6,9 +6,7 @@ use Prim.Native.Nat.{ℕ, suc, _≤_}
 use lib.Dec.{leb}
 use Rattle.octets.specs.Lists.{pick, empty}
 use Rattle.basic.specs.Pattern.{Atom, Elem, once, star, Pattern}
-use Rattle.pattern.specs.Answers.{meet-as}
 use Rattle.pattern.specs.Parts.{FitsAt}
-use Rattle.basic.specs.Reading.{read-pattern}
 use Rattle.place.specs.declared.Place.{Place}
 
 -- ---- the meaning
@@ -69,13 +67,3 @@ unfolding furthest
 place-of meet p s =
     let far : List ℕ → Option ℕ = furthest meet (p .at-end) (p .elems) in
     pick (p .at-start) (here-or (far s) nowhere) (first-place far s)
-
--- by what was read
-abbrev pub place-read : Bool → Option Pattern → List ℕ → Place
-place-read fold none t = nowhere
-place-read fold (some p) t = place-of (meet-as fold) p t
-
--- a string on a text; nowhere where it is no pattern
-unfoldable pub place-text : Bool → List ℕ → List ℕ → Place
-unfolding place-of read-pattern
-place-text fold s t = place-read fold (read-pattern s) t

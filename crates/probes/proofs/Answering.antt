@@ -6,8 +6,8 @@ use Prim.Native.Nat.{ℕ, _%_}
 use lib.Dec.{eqb}
 use borrow.Author.Tests.{not-true, not-false}
 use Rattle.octets.specs.Lists.{pick}
-use Rattle.basic.specs.Reading.{is-pattern}
-use Rattle.probes.specs.Lines.{matched, LinesTo}
+use Rattle.basic.specs.Inner.Judged.{is-pattern}
+use Rattle.probes.specs.Inner.Lines.{matched, LinesTo}
 
 module _ (p : List ℕ) (fold : ℕ) (block : List ℕ) (u : Bool) (e : u ≡ is-pattern p) where
   pub refused : not u ≡ true → LinesTo p fold block 5 0

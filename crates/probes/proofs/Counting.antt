@@ -11,7 +11,7 @@ use lib.ListN.{length, getD, take, drop, length-drop, drop-of-length-le}
 use lib.Seq.{drop-cons, drop-drop}
 use borrow.Author.Tests.{eq-eqb, ne-eqb, leb-true, leb-false, le-leb, lt-leb}
 use Rattle.octets.specs.Lists.{pick, total}
-use Rattle.probes.specs.Lines.{longer, lines, passing, before-lf}
+use Rattle.probes.specs.Inner.Lines.{longer, lines, passing, before-lf}
 
 -- ---- to the end of a line
 

@@ -7,21 +7,21 @@ use native.Mathlib.Omega.{arith}
 use lib.ListN.{length, take, drop, length-drop}
 use lib.Seq.{take-length}
 use Rattle.octets.proofs.Kept.{total-mono, total-const}
-use Rattle.cuts.specs.Parts.{part}
+use Rattle.cuts.specs.Inner.Parts.{part}
 use Rattle.contents.specs.Body.{session-lines}
-use Rattle.contents.specs.Places.{body-line, session-from}
+use Rattle.contents.specs.Inner.Places.{body-line, session-from}
 use Rattle.contents.specs.declared.BodyLine.{BodyLine}
 use Rattle.contents.specs.declared.BodyLine.the-variants.{Typed, Other, Done}
 use Rattle.contents.proofs.BodyLines.{TypedAt, OtherAt, LineSays, line-says, session-start}
 use Rattle.request.specs.Request.{request-lines}
-use Rattle.request.specs.Places.{Read, Placed, request-of}
+use Rattle.request.specs.Inner.Places.{Read, Placed, request-of}
 use Rattle.request.specs.declared.Places.{Places}
 use Rattle.request.specs.declared.Reading.{Reading}
 use Rattle.request.specs.declared.Reading.the-variants.{Unreadable, Readable}
 use Rattle.request.proofs.Answers.{read-none}
 use Rattle.request.proofs.Few.{weight}
 use Rattle.request.proofs.Readings.{readable, reads-so, short, lines-inside, lines-are, fields-many, fields-few, head-inside}
-use Rattle.probes.specs.Parts.{counted, parts, PartsTo}
+use Rattle.probes.specs.Inner.Parts.{counted, parts, PartsTo}
 use Rattle.probes.specs.declared.counts.Parts.{Parts}
 
 -- ---- lines

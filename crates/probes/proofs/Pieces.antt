@@ -5,8 +5,8 @@ use mathlib.Core.List.{List}
 use Prim.Native.Nat.{ℕ, _+_, _-_, _≤_, _<_}
 use native.Mathlib.Omega.{arith}
 use lib.ListN.{length, take}
-use Rattle.cuts.specs.Parts.{over}
-use Rattle.contents.specs.Places.{values-from, piece-at}
+use Rattle.cuts.specs.Inner.Parts.{over}
+use Rattle.contents.specs.Inner.Places.{values-from, piece-at}
 use Rattle.contents.specs.Values.{reduced, never-cut, values-of}
 use Rattle.contents.specs.declared.Piece.{Piece}
 use Rattle.contents.proofs.Laws.{reduced-front}

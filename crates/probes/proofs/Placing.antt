@@ -7,18 +7,18 @@ use native.Mathlib.Omega.{arith}
 use lib.ListN.{length, drop, drop-of-length-le}
 use Rattle.octets.specs.Lists.{total}
 use Rattle.octets.proofs.Kept.{total-mono}
-use Rattle.cuts.specs.Parts.{part}
+use Rattle.cuts.specs.Inner.Parts.{part}
 use Rattle.cuts.proofs.Parts.{length-part}
 use Rattle.contents.specs.Names.{name-as-matched}
 use Rattle.contents.specs.Values.{reduced, values-of}
-use Rattle.request.specs.Places.{head-of, field-parts, Placed, request-of}
+use Rattle.request.specs.Inner.Places.{head-of, field-parts, Placed, request-of}
 use Rattle.request.specs.Request.{Request, read-request}
 use Rattle.request.specs.declared.FieldParts.{FieldParts}
 use Rattle.request.specs.declared.Places.{Places}
 use Rattle.request.proofs.Few.{weight}
 use Rattle.request.proofs.Indexing.{FieldSays}
 use Rattle.request.proofs.Readings.{reads-so, short, fields-many, fields-few, head-inside, field-said}
-use Rattle.probes.specs.Parts.{values-in, counted, parts}
+use Rattle.probes.specs.Inner.Parts.{values-in, counted, parts}
 
 -- the fields before i are counted
 pub record Fielding (s : List ℕ) (i n : ℕ) : Type 0 where

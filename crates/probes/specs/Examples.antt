@@ -5,9 +5,9 @@ use Prim.Native.Nat.{ℕ}
 use Prim.Native.String.{String}
 use lib.Dec.{T, eqb}
 use Rattle.octets.specs.Lists.{text, every, same}
-use Rattle.pattern.specs.Answers.{meets-text}
+use Rattle.pattern.specs.Inner.Answers.{meets-text}
 use Rattle.pattern.specs.Matching.{written-matches, name-matches}
-use Rattle.probes.specs.Lines.{lines, passing, matched, matching}
+use Rattle.probes.specs.Inner.Lines.{lines, passing, matched, matching}
 
 -- the lines of a block; how many a pattern matches, as written and (true) as on names; how many are patterns that match a text
 pub data Example : Type 0 where

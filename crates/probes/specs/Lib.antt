@@ -1,3 +1,2 @@
 pub mod Examples
-pub mod Lines
-pub mod Parts
+pub mod Inner

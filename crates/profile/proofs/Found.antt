@@ -6,9 +6,9 @@ use mathlib.Core.List.{List, []}
 use lib.ListN.{length, take, getD, length-map, List·getD-eq-default}
 use lib.Seq.{getD-take}
 use Rattle.profile.specs.Image.{Stored}
-use Rattle.cells.specs.Places.{word, text-at}
-use Rattle.profile.specs.Decoded.{stored, stored-in, nothing, string-of}
-use Rattle.cells.specs.Answers.{Table}
+use Rattle.cells.specs.Inner.Places.{word, text-at}
+use Rattle.profile.specs.Inner.Decoded.{stored, stored-in, nothing, string-of}
+use Rattle.cells.specs.Inner.Answers.{Table}
 use Rattle.cells.proofs.Uses.{getD-map-in, taken, inside-at}
 
 module _ (s : List ℕ) (n : ℕ) (table : List ℕ) (tb : Table s n table) where

@@ -6,16 +6,17 @@ use mathlib.Core.List.{List, _++_}
 use lib.ListN.{length, getD, drop}
 use lib.Dec.{leb, eqb}
 use borrow.Author.Tests.{eq-eqb, ne-eqb, le-leb, lt-leb, leb-true}
-use Rattle.cells.specs.Out.{Out, good, bad, _>>=_, _>>_, must}
-use Rattle.profile.specs.Places.{Profile, judge}
-use Rattle.cells.specs.Places.{word, u8, counted, reading-strings, texts, ends, offsets, past}
-use Rattle.entries.specs.Places.{reading-rows, reading-members, reading-criteria, placed, has, spaced, row-numbers, member-numbers, criterion-numbers}
+use Rattle.cells.specs.Inner.Out.{Out, good, bad, _>>=_, _>>_, must}
+use Rattle.profile.specs.Written.{Entries}
+use Rattle.profile.specs.Inner.Places.{judge-by-places}
+use Rattle.cells.specs.Inner.Places.{word, u8, counted, reading-strings, texts, ends, offsets, past}
+use Rattle.entries.specs.Inner.Places.{reading-rows, reading-members, reading-criteria, placed, has, spaced, row-numbers, member-numbers, criterion-numbers}
 use Rattle.entries.specs.declared.Row.{Row}
 use Rattle.entries.specs.declared.Member.{Member}
-use Rattle.cells.specs.Answers.{Table, field-out, Tabled, Filled}
-use Rattle.entries.specs.Answers.{check-out, Counted}
-use Rattle.profile.specs.Answers.{opening, criteria-on, members-on, rows-on, judged-out, LaidAs, Laid}
-use Rattle.profile.specs.Decoded.{layout, laid-criteria, laid-members, laid-rows}
+use Rattle.cells.specs.Inner.Answers.{Table, field-out, Tabled, Filled}
+use Rattle.entries.specs.Inner.Answers.{check-out, Counted}
+use Rattle.profile.specs.Inner.Answers.{opening, criteria-on, members-on, rows-on, judged-out, LaidAs, Laid}
+use Rattle.profile.specs.Inner.Decoded.{layout, laid-criteria, laid-members, laid-rows}
 use Rattle.profile.specs.declared.Layout.{Layout}
 use Rattle.cells.specs.declared.Field.{Field}
 use Rattle.cells.specs.declared.Field.the-variants.{Is, Refused}
@@ -52,7 +53,7 @@ opening-inv s n e =
     (leb-true (length s) 32768 (h .0), counted-inv s 1 1024 n (k .1) .1)
 
 module _ (s : List ℕ) (strs : List (List ℕ)) (rows : List Row) (members : List Member) (n₂ at : ℕ) where
-  abbrev Here : Out Profile → Type 0
+  abbrev Here : Out Entries → Type 0
   Here o = o ≡ criteria-on s strs rows members n₂ at
 
   module _ (f : Field) (e : field-out f ≡ counted s at 64) where
@@ -82,7 +83,7 @@ placed-same f g (suc n) r at h =
     rw (h r (omega arith), ih)
 
 module _ (s : List ℕ) (strs : List (List ℕ)) (rows : List Row) (n r₂ at : ℕ) where
-  abbrev InMembers : Out Profile → Type 0
+  abbrev InMembers : Out Entries → Type 0
   InMembers o = o ≡ members-on s strs rows n r₂ at
 
   module _ (f : Field) (e : field-out f ≡ counted s at 16384) where
@@ -109,12 +110,12 @@ module _ (s : List ℕ) (strs : List (List ℕ)) (rows : List Row) (n r₂ at : 
           unfolding members-on
           mem-3 m q g₃ = rw (is e g, read .1, sym tallied ∙ ap check-out g₃)
 
-          pub mem-4 : (v : ℕ) → h ≡ Is v → (o : Out Profile) → o ≡ criteria-on s strs rows (spaced (member-numbers s) 4 (at + 2) k) n next → InMembers o
+          pub mem-4 : (v : ℕ) → h ≡ Is v → (o : Out Entries) → o ≡ criteria-on s strs rows (spaced (member-numbers s) 4 (at + 2) k) n next → InMembers o
           unfolding members-on
           mem-4 v g₃ o er = er ∙ rw (is e g, read .1, sym tallied ∙ ap check-out g₃, members-are s n k (at + 2) (read .0) next (read .1) .0)
 
 module _ (s : List ℕ) (strs : List (List ℕ)) (at : ℕ) where
-  abbrev InRows : Out Profile → Type 0
+  abbrev InRows : Out Entries → Type 0
   InRows o = o ≡ rows-on s strs at
 
   module _ (f : Field) (e : field-out f ≡ counted s at 2048) where
@@ -128,7 +129,7 @@ module _ (s : List ℕ) (strs : List (List ℕ)) (at : ℕ) where
       rows-g m q g₂ = rw (is e g, ends-bad (reading-rows s strs n (at + 2)) m q (refused e₂ g₂))
 
       module _ (next : ℕ) (g₂ : f₂ ≡ Is next) where
-        pub rows-h : (o : Out Profile) → o ≡ members-on s strs (spaced (row-numbers s) 7 (at + 2) n) n (at + 2) next → InRows o
+        pub rows-h : (o : Out Entries) → o ≡ members-on s strs (spaced (row-numbers s) 7 (at + 2) n) n (at + 2) next → InRows o
         unfolding rows-on
         rows-h o er = er ∙ rw (is e g, rows-are s strs n (at + 2) next (is e₂ g₂) .0)
 
@@ -140,28 +141,28 @@ bind-assoc : {A B C : Type 0} (o : Out A) (f : A → Out B) (k : B → Out C) �
 bind-assoc (good a) f k = refl
 bind-assoc (bad n p) f k = refl
 
-inner : (o : Out ℕ) (t : ℕ → Out Unit) (r : Out ℕ) (k : ℕ → Out Profile) → (o >>= λ v. (t v >> r) >>= k) ≡ (o >>= λ v. t v >> (r >>= k))
+inner : (o : Out ℕ) (t : ℕ → Out Unit) (r : Out ℕ) (k : ℕ → Out Entries) → (o >>= λ v. (t v >> r) >>= k) ≡ (o >>= λ v. t v >> (r >>= k))
 inner (good v) t r k = then-assoc (t v) r k
 inner (bad n p) t r k = refl
 
-abbrev pub strings-on : List ℕ → ℕ → Out Profile
+abbrev pub strings-on : List ℕ → ℕ → Out Entries
 strings-on s n = reading-strings s n 3 >>= λ q. rows-on s (q .0) (q .1)
 
-pub judge-opens : (s : List ℕ) → judge s ≡ (opening s >>= strings-on s)
-unfolding judge opening rows-on members-on criteria-on
+pub judge-opens : (s : List ℕ) → judge-by-places s ≡ (opening s >>= strings-on s)
+unfolding judge-by-places opening rows-on members-on criteria-on
 judge-opens s = sym (then-assoc (must (leb (length s) 32768) 1 0) (u8 s 0 >>= λ v. must (eqb v 1) 4 0 >> counted s 1 1024) (strings-on s)
-    ∙ ap (λ (r : Out Profile). must (leb (length s) 32768) 1 0 >> r)
+    ∙ ap (λ (r : Out Entries). must (leb (length s) 32768) 1 0 >> r)
     (bind-assoc (u8 s 0) (λ v. must (eqb v 1) 4 0 >> counted s 1 1024) (strings-on s) ∙ inner (u8 s 0) (λ v. must (eqb v 1) 4 0) (counted s 1 1024) (strings-on s)))
 
 module _ (s : List ℕ) (f : Field) (e : field-out f ≡ opening s) where
-  pub image-f : (m q : ℕ) → f ≡ Refused m q → bad m q ≡ judge s
+  pub image-f : (m q : ℕ) → f ≡ Refused m q → bad m q ≡ judge-by-places s
   image-f m q g = sym (judge-opens s ∙ rw (refused e g))
 
   module _ (n : ℕ) (g : f ≡ Is n) (f₂ : Field) (table : List ℕ) (e₂ : Tabled f₂ s n table) where
-    whole-is : judge s ≡ strings-on s n
+    whole-is : judge-by-places s ≡ strings-on s n
     whole-is = judge-opens s ∙ rw (is e g)
 
-    pub image-g : (m q : ℕ) → f₂ ≡ Refused m q → bad m q ≡ judge s
+    pub image-g : (m q : ℕ) → f₂ ≡ Refused m q → bad m q ≡ judge-by-places s
     image-g m q g₂ =
         let b : reading-strings s n 3 ≡ bad m q = subst (λ (x : Field). Tabled x s n table) g₂ e₂ in
         sym (whole-is ∙ rw b)
@@ -170,7 +171,7 @@ module _ (s : List ℕ) (f : Field) (e : field-out f ≡ opening s) where
       image-table : Tabled (Is at) s n table
       image-table = subst (λ (x : Field). Tabled x s n table) g₂ e₂
 
-      pub image-h : (r : Judged) → judged-out r s table ≡ rows-on s (texts s n table) at → judged-out r s table ≡ judge s
+      pub image-h : (r : Judged) → judged-out r s table ≡ rows-on s (texts s n table) at → judged-out r s table ≡ judge-by-places s
       image-h r er = er ∙ sym (whole-is ∙ rw (image-table .0))
 
 pub counted-next : (s : List ℕ) (n k at : ℕ) (counts : List ℕ) (f : Field) (next : ℕ) → Counted f s n k at counts → f ≡ Is next → next ≡ at + 4 * k

@@ -5,10 +5,10 @@ use mathlib.Core.List.{List, []}
 use lib.ListN.{replicate}
 use Rattle.profile.specs.Image.{accepted, refused}
 use Rattle.profile.specs.Judging as judging
-use Rattle.profile.specs.Places as places
-use Rattle.profile.specs.Decoded.{layout, profile-in, judged-by}
-use Rattle.profile.specs.Answers.{judged-out, Laid}
-use Rattle.profile.specs.Kept.{kept, judgement, string-table, Judges}
+use Rattle.profile.specs.Inner.Places as places
+use Rattle.profile.specs.Inner.Decoded.{layout, profile-in, judged-by}
+use Rattle.profile.specs.Inner.Answers.{judged-out, Laid}
+use Rattle.profile.specs.Inner.Kept.{kept, judgement, string-table, Judges}
 use Rattle.profile.specs.declared.Layout.{Layout}
 use Rattle.profile.specs.declared.Judged.{Judged}
 use Rattle.profile.specs.declared.Judged.the-variants.{Accepted, Refused}
@@ -16,7 +16,7 @@ use Rattle.profile.specs.declared.Judgement.{Judgement}
 use Rattle.profile.proofs.Same.{judge-same}
 use Rattle.profile.proofs.Placed.{placed-low}
 
-module _ (s table : List ℕ) (r : Judged) (e : judged-out r s table ≡ places.judge s) where
+module _ (s table : List ℕ) (r : Judged) (e : judged-out r s table ≡ places.judge-by-places s) where
   is-refused : (m p : ℕ) → r ≡ Refused m p → judging.judge s ≡ refused m p
   is-refused m p g = judge-same s ∙ ap (judged-by s) (sym e ∙ ap (λ (x : Judged). judged-out x s table) g)
 

@@ -9,15 +9,16 @@ use lib.ListN.{length, take, drop, getD, getElem?, replicate, List·getD-append,
 use lib.Seq.{take-at}
 use Rattle.profile.specs.Image.{Judged, accepted, refused}
 use Rattle.profile.specs.Judging.{judge}
-use Rattle.cells.specs.Out.{good}
-use Rattle.cells.specs.Places as cells
-use Rattle.profile.specs.Places as places
-use Rattle.cells.specs.Places.{word, reading-strings, offsets}
-use Rattle.entries.specs.Places.{spaced}
-use Rattle.profile.specs.Decoded.{layout, strings, stored, stored-in, profile-in}
-use Rattle.cells.specs.Answers.{Table}
-use Rattle.profile.specs.Answers.{opening}
-use Rattle.profile.specs.Kept.{kept, judgement, string-table, Judges}
+use Rattle.cells.specs.Inner.Out.{good}
+use Rattle.cells.specs.Inner.Places as cells
+use Rattle.profile.specs.Written.{Entries}
+use Rattle.profile.specs.Inner.Places as places
+use Rattle.cells.specs.Inner.Places.{word, reading-strings, offsets}
+use Rattle.entries.specs.Inner.Places.{spaced}
+use Rattle.profile.specs.Inner.Decoded.{layout, strings, stored, stored-in, profile-in}
+use Rattle.cells.specs.Inner.Answers.{Table}
+use Rattle.profile.specs.Inner.Answers.{opening}
+use Rattle.profile.specs.Inner.Kept.{kept, judgement, string-table, Judges}
 use Rattle.profile.specs.declared.Layout.{Layout}
 use Rattle.profile.specs.declared.Judgement.{Judgement}
 use Rattle.profile.proofs.Same.{Laid, laid, accepted-good}
@@ -121,7 +122,7 @@ offsets-length s zero at = refl
 offsets-length s (suc n) at = ap suc (offsets-length s n (at + 2 + word s at))
 
 -- how many strings there are, and that they were read
-strings-read : (s : List ℕ) (p : places.Profile) → places.judge s ≡ good p → (word s 1 ≤ 1024) × (q : List (List ℕ) × ℕ) × (reading-strings s (word s 1) 3 ≡ good q)
+strings-read : (s : List ℕ) (p : Entries) → places.judge-by-places s ≡ good p → (word s 1 ≤ 1024) × (q : List (List ℕ) × ℕ) × (reading-strings s (word s 1) 3 ≡ good q)
 strings-read s p e =
     let (n, o, r) = bind-inv (opening s) (strings-on s) p (sym (judge-opens s) ∙ e) in
     let (q, f, g) = bind-inv (reading-strings s n 3) _ p r in

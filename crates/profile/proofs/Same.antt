@@ -12,17 +12,18 @@ use Rattle.profile.specs.Image as image
 use Rattle.profile.specs.Image.{accepted, refused}
 use Rattle.profile.specs.Judging as judging
 use Rattle.profile.specs.Judging.{verdict}
-use Rattle.cells.specs.Out.{Out, good, bad}
-use Rattle.profile.specs.Places as places
-use Rattle.cells.specs.Places.{word, past}
-use Rattle.entries.specs.Places.{spaced, row-numbers, member-numbers, criterion-numbers}
-use Rattle.profile.specs.Decoded.{layout, strings, profile-in, judged-by}
+use Rattle.cells.specs.Inner.Out.{Out, good, bad}
+use Rattle.profile.specs.Written.{Entries}
+use Rattle.profile.specs.Inner.Places as places
+use Rattle.cells.specs.Inner.Places.{word, past}
+use Rattle.entries.specs.Inner.Places.{spaced, row-numbers, member-numbers, criterion-numbers}
+use Rattle.profile.specs.Inner.Decoded.{layout, strings, profile-in, judged-by}
 use Rattle.cells.proofs.Laws.{good-inj, bad-good}
 use Rattle.profile.proofs.SameFields.{Same, same-got, same-fault, then-is, then-must, then-done, then-tested, texts-of, u8-same, counted-same}
 use Rattle.profile.proofs.SameSections.{strings-same, rows-same, members-same, all-placed-same, criteria-same}
 
 -- an accepted image: its parts by places lie where `layout` says, to the image's end
-pub record Laid (s : List ℕ) (p : places.Profile) : Type 0 where
+pub record Laid (s : List ℕ) (p : Entries) : Type 0 where
   pub size : length s ≤ 32768
   pub strings : p .strings ≡ texts-of (strings s)
   pub rows : p .rows ≡ spaced (row-numbers s) 7 (layout s .rows) (layout s .«row_count»)
@@ -36,11 +37,11 @@ module _ (s : List ℕ) where
   sized = and-then (pick (leb (length s) 32768) (got (tt {0}) 0) (fault 1 0)) (λ u at. judging.profile s at)
 
   -- what both readings of an accepted image give
-  abbrev Read : image.Profile → ℕ → places.Profile → Type 0
+  abbrev Read : image.Profile → ℕ → Entries → Type 0
   Read q k p = (q ≡ profile-in s) × Laid s p
 
-  image-same : Same Read sized (places.judge s)
-  unfolding judging.profile places.judge layout strings profile-in
+  image-same : Same Read sized (places.judge-by-places s)
+  unfolding judging.profile places.judge-by-places layout strings profile-in
   image-same =
       let n₁ : ℕ = word s 1 in
       let at₂ : ℕ = past s n₁ 3 in
@@ -74,7 +75,7 @@ module _ (s : List ℕ) where
       ))))))))))
 
   -- readings that agree are one judgement
-  judged-same : {x : Got image.Profile} {o : Out places.Profile} → Same Read x o → verdict x ≡ judged-by s o
+  judged-same : {x : Got image.Profile} {o : Out Entries} → Same Read x o → verdict x ≡ judged-by s o
   judged-same (same-got r) = ap accepted (r .0)
   judged-same same-fault = refl
 
@@ -83,23 +84,23 @@ module _ (s : List ℕ) where
   size-first true x = refl
   size-first false x = refl
 
-  pub judge-same : judging.judge s ≡ judged-by s (places.judge s)
+  pub judge-same : judging.judge s ≡ judged-by s (places.judge-by-places s)
   unfolding judging.judge
   judge-same = size-first (leb (length s) 32768) (judging.profile s) ∙ judged-same image-same
 
   -- ---- an accepted image
 
-  laid-by : {x : Got image.Profile} {o : Out places.Profile} (p : places.Profile) → Same Read x o → o ≡ good p → Laid s p
+  laid-by : {x : Got image.Profile} {o : Out Entries} (p : Entries) → Same Read x o → o ≡ good p → Laid s p
   laid-by p (same-got r) e = subst (Laid s) (good-inj e) (r .1)
   laid-by p same-fault e = bad-good e
 
-  pub laid : (p : places.Profile) → places.judge s ≡ good p → Laid s p
+  pub laid : (p : Entries) → places.judge-by-places s ≡ good p → Laid s p
   laid p e = laid-by p image-same e
 
-  good-of : (o : Out places.Profile) (q : image.Profile) → judged-by s o ≡ accepted q → (p : places.Profile) × (o ≡ good p) × (q ≡ profile-in s)
+  good-of : (o : Out Entries) (q : image.Profile) → judged-by s o ≡ accepted q → (p : Entries) × (o ≡ good p) × (q ≡ profile-in s)
   good-of (good p) q e = (p, refl, cc)
   good-of (bad n k) q e = let z : _≡_ {A = ℕ} 0 1 = cc in absurd (omega arith)
 
   -- what is accepted is accepted by places, and is the profile that stands there
-  pub accepted-good : (q : image.Profile) → judging.judge s ≡ accepted q → (p : places.Profile) × (places.judge s ≡ good p) × (q ≡ profile-in s)
-  accepted-good q e = good-of (places.judge s) q (sym judge-same ∙ e)
+  pub accepted-good : (q : image.Profile) → judging.judge s ≡ accepted q → (p : Entries) × (places.judge-by-places s ≡ good p) × (q ≡ profile-in s)
+  accepted-good q e = good-of (places.judge-by-places s) q (sym judge-same ∙ e)

@@ -12,12 +12,12 @@ use Rattle.profile.specs.Image as image
 use Rattle.profile.specs.Image.{Stored, Test, header, description}
 use Rattle.profile.specs.Judging as judging
 use Rattle.profile.specs.Judging.{as-uri, as-method, as-pattern, as-server, as-information, test-of}
-use Rattle.cells.specs.Out.{Out, good, must, _>>=_, _>>_}
-use Rattle.cells.specs.Places as cells
-use Rattle.entries.specs.Places as places
-use Rattle.cells.specs.Places.{byte, word, long, whole, u16, limited, counted, exactly, absent}
-use Rattle.entries.specs.Places.{first-of-row, second-of-row, row-start, row-count, trigger, rest, row-numbers, member-numbers, criterion-numbers}
-use Rattle.profile.specs.Decoded.{test-from, row-from, member-with, member-from, criterion-with, criterion-from, stored}
+use Rattle.cells.specs.Inner.Out.{Out, good, must, _>>=_, _>>_}
+use Rattle.cells.specs.Inner.Places as cells
+use Rattle.entries.specs.Inner.Places as places
+use Rattle.cells.specs.Inner.Places.{byte, word, long, whole, u16, limited, counted, exactly, absent}
+use Rattle.entries.specs.Inner.Places.{first-of-row, second-of-row, row-start, row-count, trigger, rest, row-numbers, member-numbers, criterion-numbers}
+use Rattle.profile.specs.Inner.Decoded.{test-from, row-from, member-with, member-from, criterion-with, criterion-from, stored}
 use Rattle.entries.specs.declared.Row.{Row}
 use Rattle.entries.specs.declared.Member.{Member}
 use Rattle.entries.specs.declared.Criterion.{Criterion}
@@ -95,8 +95,8 @@ module _ (strings : List Stored) (s : List ℕ) (at n : ℕ) where
   test-same (suc (suc (suc (suc (suc k))))) h = let l = leb→le (suc (suc (suc (suc (suc k))))) 4 h in absurd (omega arith)
 
 pub row-same : (strings : List Stored) (s : List ℕ) (before : List image.Row) (at : ℕ)
-    → Same (Is (row-from strings s at) (at + 7) (row-numbers s at, at + 7)) (judging.row strings before s at) (places.row s (texts-of strings) at)
-unfolding places.row row-from limited
+    → Same (Is (row-from strings s at) (at + 7) (row-numbers s at, at + 7)) (judging.row strings before s at) (places.reading-row s (texts-of strings) at)
+unfolding places.reading-row row-from limited
 row-same strings s before at =
     then-is _ _ _ (limited-same s at 1)
     (then-passed _ (λ v. leb v 4) (at + 1) _ _ (up-to (at + 2) (omega arith) (u8-same s (at + 1)))
@@ -110,8 +110,8 @@ follows-same (a ∷ []) r g = refl
 follows-same (a ∷ b ∷ l) r g = follows-same (b ∷ l) r g
 
 pub member-same : (s : List ℕ) (rows : ℕ) (l : List Member) (at : ℕ)
-    → Same (Is (member-from s at) (at + 4) (member-numbers s at, at + 4)) (judging.member rows (map member-with l) s at) (places.member s rows (places.follows l) at)
-unfolding places.member
+    → Same (Is (member-from s at) (at + 4) (member-numbers s at, at + 4)) (judging.member rows (map member-with l) s at) (places.reading-member s rows (places.follows l) at)
+unfolding places.reading-member
 member-same s rows l at =
     then-tested _ (λ v. ltb v rows) at _ _ (u16-same s at)
     (λ t. then-is _ _ _ (up-to (at + 4) (omega arith) (u16-same s (at + 2)))
@@ -144,8 +144,8 @@ module _ (s : List ℕ) (form at : ℕ) where
 
 pub criterion-same : (strings : List Stored) (s : List ℕ) (rows : ℕ) (l : List Criterion) (at : ℕ)
     → Same (Is (criterion-from strings s at) (at + 15) (criterion-numbers s at, at + 15)) (judging.criterion strings rows (map (criterion-with strings) l) s at)
-    (places.criterion s (texts-of strings) rows (places.stands l) at)
-unfolding places.criterion rest trigger criterion-from
+    (places.reading-criterion s (texts-of strings) rows (places.stands l) at)
+unfolding places.reading-criterion rest trigger criterion-from
 criterion-same strings s rows l at =
     then-is _ _ _ (u32-same s at)
     (rw (repeats-same strings l (long s at)) (then-must _ (not (places.stands l (long s at))) 6 at (at + 4) _ _

@@ -9,14 +9,15 @@ use lib.ListN.{length, getD, getElem?, length-map, List·getD-map}
 use lib.Dec.{T, leb, ltb, eqb, leb·zero, leb·suc-suc, leb·suc-zero}
 use Rattle.octets.specs.Lists.{pick, empty}
 use Rattle.basic.specs.Pattern.{Pattern}
-use Rattle.basic.specs.Reading.{read-pattern, was-read, is-pattern}
+use Rattle.basic.specs.Reading.{read-pattern}
+use Rattle.basic.specs.Inner.Judged.{was-read, is-pattern}
 use Rattle.profile.specs.Reader.{Got, got, fault, Reader, and-then, number, integer, field}
 use Rattle.profile.specs.Image.{Stored}
 use Rattle.profile.specs.Judging as judging
 use Rattle.profile.specs.Judging.{as-uri, as-method, as-pattern, as-server, as-information, from-option, naming, naming-or-absent}
-use Rattle.cells.specs.Out.{Out, good, bad, must, _>>=_, _>>_}
-use Rattle.cells.specs.Places.{byte, word, long, whole, u8, u16, u32, limited, counted, exactly, usable, named, named-or-absent}
-use Rattle.profile.specs.Decoded.{nothing, string-of, or-empty, or-absent}
+use Rattle.cells.specs.Inner.Out.{Out, good, bad, must, _>>=_, _>>_}
+use Rattle.cells.specs.Inner.Places.{byte, word, long, whole, u8, u16, u32, limited, counted, exactly, usable, named, named-or-absent}
+use Rattle.profile.specs.Inner.Decoded.{nothing, string-of, or-empty, or-absent}
 
 -- ---- two readings that agree
 

@@ -14,12 +14,12 @@ use Rattle.profile.specs.Image as image
 use Rattle.profile.specs.Image.{Stored}
 use Rattle.profile.specs.Judging as judging
 use Rattle.profile.specs.Judging.{memberships-of, all-rows-have}
-use Rattle.cells.specs.Out.{Out}
-use Rattle.cells.specs.Places as cells
-use Rattle.entries.specs.Places as places
-use Rattle.cells.specs.Places.{word, text-at, many, reading-strings, offsets, past}
-use Rattle.entries.specs.Places.{reading-rows, reading-members, reading-criteria, has, placed, spaced, row-numbers, member-numbers, criterion-numbers}
-use Rattle.profile.specs.Decoded.{row-from, member-with, member-from, criterion-with, criterion-from, stored}
+use Rattle.cells.specs.Inner.Out.{Out}
+use Rattle.cells.specs.Inner.Places as cells
+use Rattle.entries.specs.Inner.Places as places
+use Rattle.cells.specs.Inner.Places.{word, text-at, many, reading-strings, offsets, past}
+use Rattle.entries.specs.Inner.Places.{reading-rows, reading-members, reading-criteria, has, placed, spaced, row-numbers, member-numbers, criterion-numbers}
+use Rattle.profile.specs.Inner.Decoded.{row-from, member-with, member-from, criterion-with, criterion-from, stored}
 use Rattle.entries.specs.declared.Member.{Member}
 use Rattle.profile.proofs.SameFields.{Same, same-got, Is, is, then-is, must-same, texts-of}
 use Rattle.profile.proofs.SameEntries.{string-same, row-same, member-same, criterion-same}
@@ -98,7 +98,7 @@ pub rows-same : (strings : List Stored) (s : List ℕ) (n at : ℕ) → Same (Is
     (entries (judging.row strings) n [] s at) (reading-rows s (texts-of strings) n at)
 unfolding reading-rows
 rows-same strings s n at =
-    spaced-same (judging.row strings) (λ _. places.row s (texts-of strings)) s (row-from strings s) (row-numbers s) 7 (λ l m. Unit {0})
+    spaced-same (judging.row strings) (λ _. places.reading-row s (texts-of strings)) s (row-from strings s) (row-numbers s) 7 (λ l m. Unit {0})
     (λ l m k h. row-same strings s l k) (λ l m k h. tt) tt n at
 
 -- the entries before are those by places, read so
@@ -109,7 +109,7 @@ pub members-same : (s : List ℕ) (rows n at : ℕ) → Same (Is (spaced (member
     (entries (judging.member rows) n [] s at) (reading-members s rows n at)
 unfolding reading-members
 members-same s rows n at =
-    spaced-same (judging.member rows) (λ before. places.member s rows (places.follows before)) s (member-from s) (member-numbers s) 4 (λ l m. l ≡ map member-with m)
+    spaced-same (judging.member rows) (λ before. places.reading-member s rows (places.follows before)) s (member-from s) (member-numbers s) 4 (λ l m. l ≡ map member-with m)
     (λ l m k e. rw e (member-same s rows m k)) (λ l m k e. map-more member-with l m (member-numbers s k) e) refl n at
 
 pub criteria-same : (strings : List Stored) (s : List ℕ) (rows n at : ℕ)
@@ -117,7 +117,7 @@ pub criteria-same : (strings : List Stored) (s : List ℕ) (rows n at : ℕ)
     (entries (judging.criterion strings rows) n [] s at) (reading-criteria s (texts-of strings) rows n at)
 unfolding reading-criteria criterion-from
 criteria-same strings s rows n at =
-    spaced-same (judging.criterion strings rows) (λ before. places.criterion s (texts-of strings) rows (places.stands before)) s (criterion-from strings s) (criterion-numbers s) 15
+    spaced-same (judging.criterion strings rows) (λ before. places.reading-criterion s (texts-of strings) rows (places.stands before)) s (criterion-from strings s) (criterion-numbers s) 15
     (λ l m. l ≡ map (criterion-with strings) m)
     (λ l m k e. rw e (criterion-same strings s rows m k)) (λ l m k e. map-more (criterion-with strings) l m (criterion-numbers s k) e) refl n at
 

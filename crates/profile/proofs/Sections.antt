@@ -7,7 +7,7 @@ use mathlib.Core.List.{List}
 use lib.ListN.{length, getElem?}
 use Rattle.octets.proofs.Options.{Ok}
 use Rattle.octets.proofs.Each.{each-at}
-use Rattle.profile.specs.Decoded.{layout, strings, row-from, member-from, criterion-from, profile-in}
+use Rattle.profile.specs.Inner.Decoded.{layout, strings, row-from, member-from, criterion-from, profile-in}
 use Rattle.profile.specs.declared.Judgement.{Judgement}
 use Rattle.profile.proofs.Accepted.{Fine, Sound, accepted-sound}
 use Rattle.profile.proofs.Opened.{Opened, spaced-length, spaced-at}

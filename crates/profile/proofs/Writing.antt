@@ -8,15 +8,15 @@ use lib.ListN.{length, length-drop}
 use Rattle.profile.specs.Image as image
 use Rattle.profile.specs.Image.{Stored, accepted}
 use Rattle.profile.specs.Judging as judging
-use Rattle.cells.specs.Out.{good}
-use Rattle.cells.specs.Places as cells
-use Rattle.entries.specs.Places as parts
-use Rattle.profile.specs.Places as places
-use Rattle.profile.specs.Places.{Profile}
-use Rattle.cells.specs.Places.{word, reading-strings, offsets, past}
-use Rattle.entries.specs.Places.{reading-rows, reading-members, reading-criteria, follows, stands, has, spaced, row-numbers, member-numbers, criterion-numbers}
-use Rattle.profile.specs.Decoded.{stored, strings, layout, row-from, member-with, member-from, criterion-with, criterion-from, profile-in, judged-by}
-use Rattle.profile.specs.Written.{string, row, membership, criterion, section, written, RightString, RightRow, RightMember, RightCriterion, Sound, rows-from, strings-of, rows-place, meant}
+use Rattle.cells.specs.Inner.Out.{good}
+use Rattle.cells.specs.Inner.Places as cells
+use Rattle.entries.specs.Inner.Places as parts
+use Rattle.profile.specs.Inner.Places as places
+use Rattle.profile.specs.Written.{Entries, string, row, membership, criterion, section, written}
+use Rattle.cells.specs.Inner.Places.{word, reading-strings, offsets, past}
+use Rattle.entries.specs.Inner.Places.{reading-rows, reading-members, reading-criteria, follows, stands, has, spaced, row-numbers, member-numbers, criterion-numbers}
+use Rattle.profile.specs.Inner.Decoded.{stored, strings, layout, row-from, member-with, member-from, criterion-with, criterion-from, profile-in, judged-by}
+use Rattle.profile.specs.Inner.Writable.{RightString, RightRow, RightMember, RightCriterion, Writable, rows-from, strings-of, rows-place, meant}
 use Rattle.entries.specs.declared.Row.{Row}
 use Rattle.cells.proofs.Laws.{counted-inv}
 use Rattle.profile.proofs.Same.{Laid, laid, judge-same}
@@ -44,13 +44,13 @@ made r m c = cc
 -- ---- the image
 
 -- what stands after the rows, and after the strings
-abbrev after-rows : Profile → List ℕ
+abbrev after-rows : Entries → List ℕ
 after-rows p = section membership (p .members) ++ section criterion (p .criteria)
 
-abbrev after-strings : Profile → List ℕ
+abbrev after-strings : Entries → List ℕ
 after-strings p = section row (p .rows) ++ after-rows p
 
-module _ (s : List ℕ) (p : Profile) (is : s ≡ written p) (sound : Sound p) where
+module _ (s : List ℕ) (p : Entries) (is : s ≡ written p) (sound : Writable p) where
   n-rows : ℕ
   n-rows = length (p .rows)
 
@@ -73,25 +73,25 @@ module _ (s : List ℕ) (p : Profile) (is : s ≡ written p) (sound : Sound p) w
       1024 1 (p .strings) (after-strings p) (sound .strings-few) (omega arith) (sound .strings)
       (further all 1 (omega arith))
 
-  rows-in : Back s (λ _. parts.row s (p .strings)) row 2048 at₂ (p .rows) (after-rows p)
+  rows-in : Back s (λ _. parts.reading-row s (p .strings)) row 2048 at₂ (p .rows) (after-rows p)
   unfolding at₂
   rows-in =
-      section-back s (λ _. parts.row s (p .strings)) row (λ _. RightRow (p .strings))
+      section-back s (λ _. parts.reading-row s (p .strings)) row (λ _. RightRow (p .strings))
       (λ before a at t h r. row-back s at t (p .strings) (sound .strings-few) a h r)
       2048 at₂ (p .rows) (after-rows p) (sound .rows-few) (omega arith) (sound .rows) (strings-in .next)
 
-  members-in : Back s (λ before. parts.member s n-rows (follows before)) membership 16384 at₃ (p .members)
+  members-in : Back s (λ before. parts.reading-member s n-rows (follows before)) membership 16384 at₃ (p .members)
       (section criterion (p .criteria))
   unfolding at₃ n-rows
   members-in =
-      section-back s (λ before. parts.member s n-rows (follows before)) membership (RightMember n-rows)
+      section-back s (λ before. parts.reading-member s n-rows (follows before)) membership (RightMember n-rows)
       (λ before a at t h r. member-back s at t n-rows (sound .rows-few) before a h r)
       16384 at₃ (p .members) (section criterion (p .criteria)) (sound .members-few) (omega arith) (sound .members) (rows-in .next)
 
-  criteria-in : Back s (λ before. parts.criterion s (p .strings) n-rows (stands before)) criterion 64 at₄ (p .criteria) []
+  criteria-in : Back s (λ before. parts.reading-criterion s (p .strings) n-rows (stands before)) criterion 64 at₄ (p .criteria) []
   unfolding at₄ n-rows
   criteria-in =
-      section-back s (λ before. parts.criterion s (p .strings) n-rows (stands before)) criterion (RightCriterion (p .strings) n-rows)
+      section-back s (λ before. parts.reading-criterion s (p .strings) n-rows (stands before)) criterion (RightCriterion (p .strings) n-rows)
       (λ before a at t h r. criterion-back s at t (p .strings) (sound .strings-few) n-rows (sound .rows-few) before a h r)
       64 at₄ (p .criteria) [] (sound .criteria-few) (omega arith) (sound .criteria) (rw append-nil (members-in .next))
 
@@ -102,8 +102,8 @@ module _ (s : List ℕ) (p : Profile) (is : s ≡ written p) (sound : Sound p) w
   unfolding end
   end-is = omega (arith, criteria-in .next .inside, ap length (criteria-in .next .is), length-drop (beyond criterion (p .criteria) at₄) s)
 
-  read-back : places.judge s ≡ good p
-  unfolding places.judge reading-strings reading-rows reading-members reading-criteria at₂ at₃ at₄ n-rows end written
+  read-back : places.judge-by-places s ≡ good p
+  unfolding places.judge-by-places reading-strings reading-rows reading-members reading-criteria at₂ at₃ at₄ n-rows end written
   read-back =
       rw (
         le-leb (length s) 32768 (rw is (sound .size)),
@@ -157,11 +157,11 @@ module _ (s : List ℕ) (p : Profile) (is : s ≡ written p) (sound : Sound p) w
   profile-is = made rows-mean members-mean criteria-mean
 
 -- what is written is read back
-pub written-read : (p : Profile) → Sound p → places.judge (written p) ≡ good p
+pub written-read : (p : Entries) → Writable p → places.judge-by-places (written p) ≡ good p
 written-read p sound = read-back (written p) p refl sound
 
 -- and is accepted, with its meaning
-pub written-judged : (p : Profile) → Sound p → judging.judge (written p) ≡ accepted (meant p)
+pub written-judged : (p : Entries) → Writable p → judging.judge (written p) ≡ accepted (meant p)
 written-judged p sound =
     judge-same (written p) ∙ ap (judged-by (written p)) (written-read p sound)
     ∙ ap accepted (profile-is (written p) p refl sound)

@@ -9,13 +9,14 @@ use lib.ListN.{length, take, drop}
 use lib.Seq.{take-append-seam}
 use lib.Dec.{T, leb, eqb, leb→le, eqb→eq}
 use Rattle.octets.proofs.Tests.{right, is-true}
-use Rattle.cells.specs.Out.{good}
+use Rattle.cells.specs.Inner.Out.{good}
 use Rattle.profile.specs.Judging.{first-ok}
-use Rattle.cells.specs.Places as cells
-use Rattle.entries.specs.Places as places
-use Rattle.cells.specs.Places.{word, text-at, u16, counted, sized, exactly, absent, named, named-or-absent}
-use Rattle.entries.specs.Places.{first-of-row, second-of-row, follows, stands, right-count, row-start, row-count, trigger, rest}
-use Rattle.profile.specs.Written.{two, string, row, membership, criterion, names, names-or-none, RightString, RightRow, RightMember, RightCriterion}
+use Rattle.cells.specs.Inner.Places as cells
+use Rattle.entries.specs.Inner.Places as places
+use Rattle.cells.specs.Inner.Places.{word, text-at, u16, counted, sized, exactly, absent, named, named-or-absent}
+use Rattle.entries.specs.Inner.Places.{first-of-row, second-of-row, follows, stands, right-count, row-start, row-count, trigger, rest}
+use Rattle.profile.specs.Written.{two, string, row, membership, criterion}
+use Rattle.profile.specs.Inner.Writable.{names, names-or-none, RightString, RightRow, RightMember, RightCriterion}
 use Rattle.entries.specs.declared.Row.{Row}
 use Rattle.entries.specs.declared.Member.{Member}
 use Rattle.entries.specs.declared.Criterion.{Criterion}
@@ -70,8 +71,8 @@ module _ (s : List ℕ) (at : ℕ) (t : List ℕ) (strs : List (List ℕ)) (few 
   second-back =
       second-by s (at + 4) _ strs few (x .kind) (x .second) (eqb (x .kind) 2 || eqb (x .kind) 4) (h .second) (further r 4 (omega arith))
 
-  pub row-back : places.row s strs at ≡ good (x, at + 7)
-  unfolding places.row
+  pub row-back : places.reading-row s strs at ≡ good (x, at + 7)
+  unfolding places.reading-row
   row-back =
       rw (
         limited-back s at _ 1 (x .negated) (h .negated) r,
@@ -85,8 +86,8 @@ module _ (s : List ℕ) (at : ℕ) (t : List ℕ) (strs : List (List ℕ)) (few 
 
 pub member-back : (s : List ℕ) (at : ℕ) (t : List ℕ) (rows : ℕ) → rows ≤ 2048 → (before : List Member) (m : Member)
     → RightMember rows before m → Rest s at (membership m ++ t)
-    → places.member s rows (follows before) at ≡ good (m, at + 4)
-unfolding places.member
+    → places.reading-member s rows (follows before) at ≡ good (m, at + 4)
+unfolding places.reading-member
 member-back s at t rows few before m h r =
     rw (
       u16-back s at _ (m .row) (omega (arith, h .row)) r,
@@ -149,6 +150,6 @@ module _ (s : List ℕ) (at : ℕ) (t : List ℕ) (strs : List (List ℕ)) (strs
         named-or-absent-back s (at + 13) t strs strs-few 5 (c .info) (h .info) (further r 13 (omega arith)),
       )
 
-  pub criterion-back : places.criterion s strs rows (stands before) at ≡ good (c, at + 15)
-  unfolding places.criterion
+  pub criterion-back : places.reading-criterion s strs rows (stands before) at ≡ good (c, at + 15)
+  unfolding places.reading-criterion
   criterion-back = rw (u32-back s at (c .priority) _ (h .priority) r, is-true (not (stands before (c .priority))) (h .new)) rest-back

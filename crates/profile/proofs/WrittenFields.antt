@@ -9,9 +9,10 @@ use lib.ListN.{length, getD, drop, length-drop, length-append}
 use lib.Seq.{drop-drop, getD-drop, drop-append-seam}
 use lib.Dec.{T, ltb, eqb, ltb→lt, eqb→eq}
 use Rattle.octets.proofs.Tests.{left, right, is-true, or-cases}
-use Rattle.cells.specs.Out.{good}
-use Rattle.cells.specs.Places.{byte, word, u8, u16, u32, limited, counted, exactly, absent, usable, named, named-or-absent}
-use Rattle.profile.specs.Written.{two, four, names, names-or-none}
+use Rattle.cells.specs.Inner.Out.{good}
+use Rattle.cells.specs.Inner.Places.{byte, word, u8, u16, u32, limited, counted, exactly, absent, usable, named, named-or-absent}
+use Rattle.profile.specs.Written.{two, four}
+use Rattle.profile.specs.Inner.Writable.{names, names-or-none}
 use Rattle.cells.proofs.Laws.{whole-yes, u8-yes, u16-yes, limited-yes, counted-yes}
 
 -- ---- what stands in s from a place on

@@ -6,11 +6,12 @@ use borrow.Author.Tests.{le-leb}
 use mathlib.Core.List.{List, [], _∷_, _++_, map, append-nil, append-assoc}
 use lib.ListN.{length, length-append}
 use Rattle.profile.specs.Image.{Stored}
-use Rattle.cells.specs.Out.{Out, good}
-use Rattle.cells.specs.Places.{word, many, counted, offsets, past}
-use Rattle.entries.specs.Places.{placed}
-use Rattle.profile.specs.Decoded.{stored}
-use Rattle.profile.specs.Written.{string, joined, section, InTurn, RightString, strings-from}
+use Rattle.cells.specs.Inner.Out.{Out, good}
+use Rattle.cells.specs.Inner.Places.{word, many, counted, offsets, past}
+use Rattle.entries.specs.Inner.Places.{placed}
+use Rattle.profile.specs.Inner.Decoded.{stored}
+use Rattle.profile.specs.Written.{string, joined, section}
+use Rattle.profile.specs.Inner.Writable.{InTurn, RightString, strings-from}
 use Rattle.profile.proofs.WrittenFields.{Rest, further, after, counted-back}
 use Rattle.profile.proofs.WrittenEntries.{length-back, text-at-back, bytes-back}
 

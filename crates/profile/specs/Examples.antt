@@ -1,39 +1,15 @@
--- Worked images: document 01's two, and a fault at each place that can be got wrong. One list, one claim;
--- and a profile that may be written.
+-- Worked images: document 01's two, and a fault at each place that can be got wrong. One list, one claim.
 use mathlib.Core.Bool.{Bool, true, false, _&&_}
-use Prim.Native.Nat.{ℕ, zero, suc, _≤_, _<_}
-use native.Mathlib.Omega.{arith}
+use Prim.Native.Nat.{ℕ, zero, suc}
 use mathlib.Core.List.{List, [], _∷_, _++_}
 use lib.Dec.{T, eqb}
 use Rattle.octets.specs.Lists.{text, every, same}
-use Rattle.basic.specs.Reading.{is-pattern, read-pattern}
 use Rattle.profile.specs.Image.{Judged, accepted, refused}
 use Rattle.profile.specs.Judging.{judge}
-use Rattle.profile.specs.Places.{Profile}
-use Rattle.cells.specs.Places.{usable}
-use Rattle.entries.specs.Places.{has}
 use Rattle.profile.specs.Written as bytes
-use Rattle.profile.specs.Written.{two, string, section, written, Sound}
-use Rattle.entries.specs.declared.Row.{Row}
-use Rattle.entries.specs.declared.Member.{Member}
-use Rattle.entries.specs.declared.Trigger.{Trigger}
-use Rattle.entries.specs.declared.Criterion.{Criterion}
+use Rattle.profile.specs.Written.{Entries, row-of, member-of, criterion-of, two, string, section, written}
 
 -- ---- writing images
-
--- a row's numbers: negated, kind, first, second, no registration set
-abbrev pub row-of : ℕ → ℕ → ℕ → ℕ → Row
-row-of negated kind first second = record { negated = negated; kind = kind; first = first; second = second; set = 0 }
-
--- a membership's: row, group
-abbrev pub member-of : ℕ → ℕ → Member
-member-of r g = record { row = r; group = g }
-
--- a criterion's: priority, part absent, the form, first row, row count, server string, default handling, no information
-abbrev pub criterion-of : ℕ → ℕ → ℕ → ℕ → ℕ → ℕ → Criterion
-criterion-of priority form first count server handling =
-    let trigger : Trigger = record { form = form; first = first; count = count } in
-    record { priority = priority; part = 2; trigger = trigger; server = server; handling = handling; info = 65535 }
 
 -- their bytes, for images that are cut or wrong
 abbrev row : ℕ → ℕ → ℕ → ℕ → List ℕ
@@ -56,10 +32,10 @@ one-criterion =
     ∷ 0x00 ∷ 0x00 ∷ 0x00 ∷ 0x05 ∷ 0x02 ∷ 0x02 ∷ 0x00 ∷ 0x00 ∷ 0x00 ∷ 0x00 ∷ 0x00 ∷ 0x00 ∷ 0x01 ∷ 0xFF ∷ 0xFF ∷ []
 
 -- the profiles of these two
-abbrev nothing : Profile
+abbrev nothing : Entries
 nothing = record { strings = []; rows = []; members = []; criteria = [] }
 
-abbrev one : Profile
+abbrev one : Entries
 one = record { strings = text "sip:a" ∷ []; rows = []; members = []; criteria = criterion-of 5 2 0 0 0 1 ∷ [] }
 
 -- strings `A`, `[` (no pattern), the empty one, `a b` (no token): up to place 16, where the row count stands
@@ -96,7 +72,7 @@ zeros (suc n) = 0 ∷ zeros n
 
 -- a profile with its bytes; accepted; accepted, with this default in every criterion; a fault's number and place
 pub data Example : Type 0 where
-  writes : Profile → List ℕ → Example
+  writes : Entries → List ℕ → Example
   is-accepted : List ℕ → Example
   has-default : ℕ → List ℕ → Example
   fault-at : ℕ → ℕ → List ℕ → Example
@@ -185,46 +161,3 @@ examples =
 pub all-right : T (every right examples)
 unfolding right examples
 all-right = tt
-
--- ---- a profile that may be written: one criterion for a From field
-
-abbrev pub asking-from : Profile
-asking-from = record {
-  strings = text "sip:a" ∷ text "From" ∷ [];
-  rows = row-of 0 2 1 65535 ∷ [];
-  members = member-of 0 0 ∷ [];
-  criteria = criterion-of 5 0 0 1 0 0 ∷ [];
-}
-
-asking-from-placed : (r : ℕ) → r < 1 → (1 ≤ has (asking-from .members) r) × (has (asking-from .members) r ≤ 8)
-unfolding has
-asking-from-placed zero h = (omega arith, omega arith)
-asking-from-placed (suc r) h = absurd (omega arith)
-
-pub asking-from-sound : Sound asking-from
-unfolding written usable is-pattern read-pattern
-asking-from-sound = record {
-  strings-few = omega arith;
-  strings = (omega arith, (omega arith, tt));
-  rows-few = omega arith;
-  rows = (record { negated = omega arith; kind = omega arith; first = tt; second = tt; set = omega arith }, tt);
-  members-few = omega arith;
-  members = (record { row = omega arith; group = omega arith; rises = tt }, tt);
-  placed = asking-from-placed;
-  criteria-few = omega arith;
-  criteria = (
-    record {
-      priority = omega arith;
-      new = tt;
-      part = omega arith;
-      form = omega arith;
-      first = tt;
-      count = tt;
-      server = tt;
-      handling = omega arith;
-      info = tt;
-    },
-    tt,
-  );
-  size = omega arith;
-}

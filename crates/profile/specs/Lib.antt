@@ -1,9 +1,6 @@
-pub mod Answers
-pub mod Decoded
 pub mod Examples
 pub mod Image
+pub mod Inner
 pub mod Judging
-pub mod Kept
-pub mod Places
 pub mod Reader
 pub mod Written

@@ -3,14 +3,14 @@ ghost use mathlib.Core.Path.{_≡_};
 ghost use mathlib.Core.List.{[]};
 ghost use Prim.Native.Nat.{_+_, _≤_};
 ghost use lib.ListN.{length};
-ghost use Rattle.cells.specs.Places.{texts};
-ghost use Rattle.entries.specs.Places.{spaced, row-numbers, member-numbers};
-ghost use Rattle.profile.specs.Places.{judge};
+ghost use Rattle.cells.specs.Inner.Places.{texts};
+ghost use Rattle.entries.specs.Inner.Places.{spaced, row-numbers, member-numbers};
+ghost use Rattle.profile.specs.Inner.Places.{judge-by-places};
 ghost use Rattle.profile.specs.Image.{refused};
-ghost use Rattle.profile.specs.Kept.{kept, Judges};
-ghost use Rattle.profile.specs.Decoded.{stored-in, string-of, laid-criteria, laid-members, laid-rows};
-ghost use Rattle.cells.specs.Answers.{field-out, Table, Known};
-ghost use Rattle.profile.specs.Answers.{LaidAs, Laid, opening, criteria-on, members-on, rows-on, judged-out};
+ghost use Rattle.profile.specs.Inner.Kept.{kept, Judges};
+ghost use Rattle.profile.specs.Inner.Decoded.{stored-in, string-of, laid-criteria, laid-members, laid-rows};
+ghost use Rattle.cells.specs.Inner.Answers.{field-out, Table, Known};
+ghost use Rattle.profile.specs.Inner.Answers.{LaidAs, Laid, opening, criteria-on, members-on, rows-on, judged-out};
 use cells::Field;
 use cells::byte_at;
 use cells::count_at;
@@ -162,7 +162,7 @@ fn from_rows(s: &[u8], table: &[u16; 1024], strings: usize, at: usize) -> Judged
 // The judgement of an image. Of an accepted one the table has the strings' offsets.
 fn judge_image(s: &[u8], table: &mut [u16; 1024]) -> Judged
     requires { ⌜ length (now table) ≡ 1024 ⌝ }
-    ensures { λ r. ⌜ judged-out r (now (s .entry)) (now (table .exit)) ≡ judge (now (s .entry)) ⌝ }
+    ensures { λ r. ⌜ judged-out r (now (s .entry)) (now (table .exit)) ≡ judge-by-places (now (s .entry)) ⌝ }
     ensures laid { λ r. ⌜ Laid r (now (s .entry)) (now (table .entry)) (now (table .exit)) ⌝ }
 {
     let n = match open_image(s) {

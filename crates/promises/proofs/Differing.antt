@@ -1,23 +1,19 @@
 -- Demand 3 at work: two requests that differ where nothing is read, and get one answer; two that differ where something is, and do not.
 use mathlib.Core.Path.{_≡_, refl}
-use Prim.Native.Nat.{ℕ}
 use Prim.Native.String.{String}
-use mathlib.Core.List.{List, [], _∷_, _++_}
+use mathlib.Core.List.{[], _∷_}
 use Rattle.octets.specs.Lists.{text}
 use Rattle.pattern.specs.Matching.{name-matches}
-use Rattle.profile.specs.Decoded.{profile-in}
+use Rattle.profile.specs.Inner.Decoded.{profile-in}
 use Rattle.profile.specs.Judging.{judge}
-use Rattle.profile.specs.Examples.{row-of, member-of, criterion-of}
 use Rattle.profile.specs.Written.{written}
 use Rattle.request.specs.Request.{Field, read-request}
-use Rattle.request.specs.Places.{request-of}
+use Rattle.request.specs.Inner.Places.{request-of}
 use Rattle.session.specs.Session.{fresh}
 use Rattle.route.specs.Advance.{advance}
 use Rattle.promises.specs.Common.{from-joe}
+use Rattle.promises.specs.Pairs.{invite, under, line-m, typed}
 use Rattle.promises.specs.Agreement.{start-of, none-left, field-and, Agree}
-
-pub invite : String → String → String → List ℕ
-invite from id body = text "INVITE sip:b SIP/2.0\r\nFrom: " ++ text from ++ text "\r\nCall-ID: " ++ text id ++ text "\r\n\r\n" ++ text body
 
 call-id : String → Field
 call-id value = record { name = text "Call-ID"; values = text value ∷ [] }
@@ -37,10 +33,6 @@ unasked-agree = record {
   same-body = λ t. absurd t;
 }
 
--- From under the short name, and under the long one
-pub under : String → List ℕ
-under name = text "INVITE sip:b SIP/2.0\r\n" ++ text name ++ text ": joe\r\n\r\n"
-
 pub short-agree : Agree (from-joe 0) (under "f") (under "From")
 unfolding under written judge profile-in read-request request-of start-of
 short-agree = record {
@@ -59,18 +51,6 @@ short-agree = record {
 pub asked-differ : (advance (fresh 0) (from-joe 0) (invite "joe" "1" "m=a") .outcome ≡ 1) × (advance (fresh 0) (from-joe 0) (invite "ann" "1" "m=a") .outcome ≡ 2)
 unfolding invite written advance
 asked-differ = (refl, refl)
-
--- another Content-Type, where a row asks for a line `m`
-abbrev pub line-m : List ℕ
-line-m = written (record {
-  strings = text "m" ∷ text "sip:a" ∷ [];
-  rows = row-of 0 4 0 65535 ∷ [];
-  members = member-of 0 0 ∷ [];
-  criteria = criterion-of 7 0 0 1 1 0 ∷ [];
-})
-
-pub typed : String → List ℕ
-typed type = text "INVITE sip:b SIP/2.0\r\nc: " ++ text type ++ text "\r\n\r\nm=a"
 
 pub type-differ : (advance (fresh 0) line-m (typed "application/sdp") .outcome ≡ 1) × (advance (fresh 0) line-m (typed "text/plain") .outcome ≡ 2)
 unfolding typed written advance

@@ -9,11 +9,10 @@ use native.Mathlib.Omega.{arith}
 use mathlib.Core.List.{List, [], _∷_, _++_, List·Memᴰ, List·Memᴰ·head, List·Memᴰ·tail, List·Memᴰ·cases-cons, List·Memᴰ·eq-of-singleton}
 use lib.Dec.{T}
 use Rattle.octets.specs.Lists.{text}
-use Rattle.profile.specs.Decoded.{profile-in}
-use Rattle.profile.specs.Examples.{row-of, member-of, criterion-of}
+use Rattle.profile.specs.Inner.Decoded.{profile-in}
+use Rattle.profile.specs.Written.{row-of, member-of, criterion-of, written}
 use Rattle.profile.specs.Image.{Profile}
 use Rattle.profile.specs.Judging.{judge}
-use Rattle.profile.specs.Written.{written}
 use Rattle.request.specs.Request.{Request, read-request}
 use Rattle.session.specs.Session.{fresh, open-session, report-session}
 use Rattle.session.specs.declared.Session.{Session}

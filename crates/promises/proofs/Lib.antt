@@ -2,8 +2,10 @@ pub mod Alike
 pub mod AlikeShown
 pub mod Asked
 pub mod AtMost
+pub mod Details
 pub mod Differing
 pub mod EachWay
+pub mod EveryCall
 pub mod Listings
 pub mod Main
 pub mod Next

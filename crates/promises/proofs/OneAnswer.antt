@@ -13,13 +13,13 @@ use Rattle.session.specs.Session.{Opens, Reports}
 use Rattle.session.specs.declared.Session.{Session}
 use Rattle.session.specs.declared.Opened.{Opened}
 use Rattle.session.specs.declared.Reported.{Reported}
-use Rattle.request.specs.Places.{Read}
+use Rattle.request.specs.Inner.Places.{Read}
 use Rattle.request.specs.Request.{Request}
 use Rattle.request.specs.declared.Reading.{Reading}
 use Rattle.rows.specs.declared.Given.{Given}
-use Rattle.rows.specs.Tried.{Tried}
+use Rattle.rows.specs.Inner.Tried.{Tried}
 use Rattle.trials.specs.declared.Verdict.{Verdict}
-use Rattle.fitting.specs.Rowwise.{Considered}
+use Rattle.fitting.specs.Inner.Rowwise.{Considered}
 use Rattle.route.specs.Advance.{Advances}
 use Rattle.listing.specs.Listing.{Lists}
 use Rattle.route.specs.declared.Advanced.{Advanced}

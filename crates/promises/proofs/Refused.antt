@@ -29,59 +29,71 @@ use Rattle.listing.specs.Listing.{Listing, listed, refuse-list, filled, fill, f
 use Rattle.route.specs.declared.Advanced.{Advanced}
 use Rattle.show.specs.Show.{show-row, show-read, show-judged, show}
 use Rattle.show.specs.declared.Answer.{Answer}
-use Rattle.promises.specs.Refusals.{Line, at-0, Refusal, no-refusal, First, none-holds, this-one, a-later-one, image-line, unreadable, is-register, too-many, missing, no-such, check-lines, open-lines, advance-lines, report-lines, listing-lines, lookup-lines, missing-row, no-row, show-lines}
+use Rattle.promises.specs.Refusals.{Line, at-0, First, FirstNumber, numbered, none-holds, this-one, a-later-one, image-line, unreadable, is-register, too-many, missing, no-such, check-lines, open-lines, advance-lines, report-lines, listing-lines, lookup-lines, missing-row, no-row, show-lines}
 
 -- ---- the first line that holds
 
+-- a refusal's number and place; 0 and 0 is none
+record Refusal : Type 0 where
+  number : ℕ
+  place : ℕ
+
+abbrev no-refusal : Refusal
+no-refusal = record { number = 0; place = 0 }
+
+abbrev this-or : Bool → Line → Refusal → Refusal
+this-or b l later = pick b (record { number = l .number; place = l .place }) later
+
 abbrev first-of : List Line → Refusal
 first-of [] = no-refusal
-first-of (l ∷ ls) = pick (l .holds) (record { number = l .number; place = l .place }) (first-of ls)
+first-of (l ∷ ls) = this-or (l .holds) l (first-of ls)
 
-first-is : (ls : List Line) → First ls (first-of ls)
+first-is : (ls : List Line) → First ls (first-of ls .number) (first-of ls .place)
 first-is [] = none-holds
 first-is (l ∷ ls) = go (l .holds) refl (first-is ls)
   where
-    go : (b : Bool) → l .holds ≡ b → First ls (first-of ls) → First (l ∷ ls) (pick b (record { number = l .number; place = l .place }) (first-of ls))
+    go : (b : Bool) → l .holds ≡ b → First ls (first-of ls .number) (first-of ls .place)
+        → First (l ∷ ls) (this-or b l (first-of ls) .number) (this-or b l (first-of ls) .place)
     go true e f = this-one (T-of e)
     go false e f = a-later-one (subst (λ (b : Bool). T (not b)) (sym e) tt) f
 
 -- no other is
-pub first-one : {ls : List Line} {r s : Refusal} → First ls r → First ls s → r ≡ s
-first-one none-holds none-holds = refl
-first-one (this-one t) (this-one u) = refl
+pub first-one : {ls : List Line} {m n p q : ℕ} → First ls m p → First ls n q → (m ≡ n) × (p ≡ q)
+first-one none-holds none-holds = (refl, refl)
+first-one (this-one t) (this-one u) = (refl, refl)
 first-one (this-one {l = l} t) (a-later-one u f) = absurd (T-not (l .holds) u t)
 first-one (a-later-one {l = l} u f) (this-one t) = absurd (T-not (l .holds) u t)
 first-one (a-later-one u f) (a-later-one v g) = first-one f g
 
-as-first : (ls : List Line) (r : Refusal) → r ≡ first-of ls → First ls r
-as-first ls r e = subst (First ls) (sym e) (first-is ls)
+as-first : (ls : List Line) (r : Refusal) → r ≡ first-of ls → First ls (r .number) (r .place)
+as-first ls r e = subst (λ (x : Refusal). First ls (x .number) (x .place)) (sym e) (first-is ls)
 
 -- ---- the refusal of an answer
 
-abbrev pub of-checked : Checked → Refusal
+abbrev of-checked : Checked → Refusal
 of-checked a = record { number = a .refusal; place = a .place }
 
-abbrev pub of-opened : Opened → Refusal
+abbrev of-opened : Opened → Refusal
 of-opened a = record { number = a .refusal; place = 0 }
 
-abbrev pub of-advanced : Advanced → Refusal
+abbrev of-advanced : Advanced → Refusal
 of-advanced a = record { number = a .refusal; place = a .place }
 
-abbrev pub of-reported : Reported → Refusal
+abbrev of-reported : Reported → Refusal
 of-reported a = record { number = a .refusal; place = 0 }
 
-abbrev pub of-listing : Listing → Refusal
+abbrev of-listing : Listing → Refusal
 of-listing l = record { number = l .answer .refusal; place = l .answer .place }
 
-abbrev pub of-lookup : Lookup → Refusal
+abbrev of-lookup : Lookup → Refusal
 of-lookup a = record { number = a .refusal; place = a .place }
 
-abbrev pub of-shown : Answer → Refusal
+abbrev of-shown : Answer → Refusal
 of-shown a = record { number = a .refusal; place = a .place }
 
 -- ---- check
 
-pub check-refusal : (image : List ℕ) → First (check-lines image) (of-checked (check image))
+pub check-refusal : (image : List ℕ) → First (check-lines image) (check image .refusal) (check image .place)
 unfolding check
 check-refusal image = as-first (check-lines image) (of-checked (checked (judge image))) (go (judge image))
   where
@@ -91,9 +103,9 @@ check-refusal image = as-first (check-lines image) (of-checked (checked (judge i
 
 -- ---- open
 
-pub open-refusal : (case : ℕ) → First (open-lines case) (of-opened (open-session case))
+pub open-refusal : (case : ℕ) → FirstNumber (open-lines case) (open-session case .refusal)
 unfolding open-session
-open-refusal case = as-first (open-lines case) _ (go (leb case 3))
+open-refusal case = numbered 0 (as-first (open-lines case) (of-opened (open-session case)) (go (leb case 3)))
   where
     go : (b : Bool) → of-opened (pick b (record { refusal = 0; session = fresh case }) (record { refusal = 8; session = unopened })) ≡ first-of (at-0 (not b) 8 ∷ [])
     go true = refl
@@ -130,8 +142,8 @@ advance-first x image r = ready-or-not (possible x && eqb (x .state) ready)
     ready-or-not true = judged-or-not (judge image)
     ready-or-not false = refl
 
-pub advance-refusal : (x : Session) (image r : List ℕ) → First (advance-lines x image r) (of-advanced (advance x image r))
-advance-refusal x image r = as-first (advance-lines x image r) _ (advance-first x image r)
+pub advance-refusal : (x : Session) (image r : List ℕ) → First (advance-lines x image r) (advance x image r .refusal) (advance x image r .place)
+advance-refusal x image r = as-first (advance-lines x image r) (of-advanced (advance x image r)) (advance-first x image r)
 
 -- ---- report
 
@@ -155,8 +167,8 @@ report-first x n = go (possible x && eqb (x .state) waiting)
     go true = after-refusal n x
     go false = refl
 
-pub report-refusal : (x : Session) (n : ℕ) → First (report-lines x n) (of-reported (report-session x n))
-report-refusal x n = as-first (report-lines x n) _ (report-first x n)
+pub report-refusal : (x : Session) (n : ℕ) → FirstNumber (report-lines x n) (report-session x n .refusal)
+report-refusal x n = numbered 0 (as-first (report-lines x n) (of-reported (report-session x n)) (report-first x n))
 
 -- ---- listing
 
@@ -194,8 +206,8 @@ listing-first g image r places = judged-or-not (judge image)
     judged-or-not (accepted p) = read-or-not p (read-request r)
     judged-or-not (refused n place) = refl
 
-pub listing-refusal : (g : Given) (image r places : List ℕ) → First (listing-lines g image r places) (of-listing (listing g image r places))
-listing-refusal g image r places = as-first (listing-lines g image r places) _ (listing-first g image r places)
+pub listing-refusal : (g : Given) (image r places : List ℕ) → First (listing-lines g image r places) (listing g image r places .answer .refusal) (listing g image r places .answer .place)
+listing-refusal g image r places = as-first (listing-lines g image r places) (of-listing (listing g image r places)) (listing-first g image r places)
 
 -- ---- lookups
 
@@ -211,13 +223,13 @@ looked-first part (accepted p) i = go (getElem? (p .criteria) i)
     go none = refl
     go (some c) = part-refusal (part c)
 
-pub server-refusal : (image : List ℕ) (i : ℕ) → First (lookup-lines image i) (of-lookup (server image i))
+pub server-refusal : (image : List ℕ) (i : ℕ) → First (lookup-lines image i) (server image i .refusal) (server image i .place)
 unfolding server
-server-refusal image i = as-first (lookup-lines image i) _ (looked-first its-server (judge image) i)
+server-refusal image i = as-first (lookup-lines image i) (of-lookup (server image i)) (looked-first its-server (judge image) i)
 
-pub information-refusal : (image : List ℕ) (i : ℕ) → First (lookup-lines image i) (of-lookup (information image i))
+pub information-refusal : (image : List ℕ) (i : ℕ) → First (lookup-lines image i) (information image i .refusal) (information image i .place)
 unfolding information
-information-refusal image i = as-first (lookup-lines image i) _ (looked-first its-information (judge image) i)
+information-refusal image i = as-first (lookup-lines image i) (of-lookup (information image i)) (looked-first its-information (judge image) i)
 
 -- ---- show
 
@@ -234,6 +246,6 @@ shown-first (accepted p) r k o e = ap (λ (q : Option Request). of-shown (show-r
     by none = refl
     by (some q) = go q (getElem? (p .rows) k)
 
-pub show-refusal : (image r : List ℕ) (k : ℕ) → First (show-lines image r k) (of-shown (show image r k))
+pub show-refusal : (image r : List ℕ) (k : ℕ) → First (show-lines image r k) (show image r k .refusal) (show image r k .place)
 unfolding show
-show-refusal image r k = as-first (show-lines image r k) _ (shown-first (judge image) r k (read-request r) refl)
+show-refusal image r k = as-first (show-lines image r k) (of-shown (show image r k)) (shown-first (judge image) r k (read-request r) refl)

@@ -4,31 +4,17 @@ use Prim.Native.Nat.{ℕ}
 use native.Mathlib.Omega.{arith}
 use mathlib.Core.List.{List, [], _∷_}
 use Rattle.octets.specs.Lists.{text}
-use Rattle.profile.specs.Examples.{row-of, member-of, criterion-of, one-criterion, asking-from}
-use Rattle.profile.specs.Written.{written}
+use Rattle.profile.specs.Examples.{one-criterion}
+use Rattle.profile.specs.Inner.Writable.{asking-from}
+use Rattle.profile.specs.Written.{row-of, member-of, criterion-of, written}
 use Rattle.session.specs.Session.{fresh, report-session}
 use Rattle.session.specs.declared.Session.{Session}
 use Rattle.rows.specs.declared.Given.{Given}
-use Rattle.route.specs.Advance.{advance, Advances}
-use Rattle.listing.specs.Listing.{Listing, listing, Lists}
+use Rattle.route.specs.Advance.{advance}
+use Rattle.listing.specs.Listing.{listing}
 use Rattle.route.specs.declared.Advanced.{Advanced}
 use Rattle.promises.specs.Common.{pair}
-
--- ---- libraries
-
--- a library for advance, and that it meets the statement
-abbrev Library : Type 0
-Library = Session → List ℕ → List ℕ → Advanced
-
-abbrev Meets : Library → Type 0
-Meets lib = (x : Session) (image r : List ℕ) → Advances x image r (lib x image r)
-
--- one for listing: its answer, and what it leaves in the lent list
-abbrev Lister : Type 0
-Lister = Given → List ℕ → List ℕ → List ℕ → Listing
-
-abbrev MeetsList : Lister → Type 0
-MeetsList lib = (g : Given) (image r before : List ℕ) → Lists g image r before (lib g image r before .answer) (lib g image r before .places)
+use Rattle.promises.specs.Libraries.{Library, Meets, Lister, MeetsList, RuledOut}
 
 -- ---- bytes to try them on
 
@@ -96,24 +82,24 @@ trials-of : Advanced → ℕ
 trials-of a = a .trials
 
 -- one that refuses everything
-pub not-refuse-all : (lib : Library) → ((x : Session) (image r : List ℕ) → lib x image r .refusal ≡ 0 → ⊥) → Meets lib → ⊥
+not-refuse-all : (lib : Library) → ((x : Session) (image r : List ℕ) → lib x image r .refusal ≡ 0 → ⊥) → Meets lib → ⊥
 unfolding advance invite
 not-refuse-all lib h m = h (fresh 0) one-criterion invite (ap (λ (a : Advanced). a .refusal) (m (fresh 0) one-criterion invite .answer))
 
 -- one that always routes
-pub not-always-route : (lib : Library) → ((x : Session) (image r : List ℕ) → lib x image r .outcome ≡ 2) → Meets lib → ⊥
+not-always-route : (lib : Library) → ((x : Session) (image r : List ℕ) → lib x image r .outcome ≡ 2) → Meets lib → ⊥
 unfolding outcome-of
 not-always-route lib h m =
     let z : _≡_ {A = ℕ} 2 1 = sym (h (fresh 0) one-criterion invite) ∙ ap outcome-of (m (fresh 0) one-criterion invite .answer) ∙ forwards-5 in
     omega arith
 
 -- one that is "right at its first advance and idle after": it refuses or routes every session that forwarded before
-pub not-idle : (lib : Library) → ((x : Session) (image r : List ℕ) → x .forwarded ≡ 1 → lib x image r .outcome ≡ 1 → ⊥) → Meets lib → ⊥
+not-idle : (lib : Library) → ((x : Session) (image r : List ℕ) → x .forwarded ≡ 1 → lib x image r .outcome ≡ 1 → ⊥) → Meets lib → ⊥
 unfolding outcome-of advance report-session invite returned twice written
 not-idle lib h m = h returned twice invite refl (ap outcome-of (m returned twice invite .answer) ∙ forwards-again)
 
 -- one whose trials are made up: the same whatever the request
-pub not-made-up : (lib : Library) → ((x : Session) (image a b : List ℕ) → lib x image a .trials ≡ lib x image b .trials) → Meets lib → ⊥
+not-made-up : (lib : Library) → ((x : Session) (image a b : List ℕ) → lib x image a .trials ≡ lib x image b .trials) → Meets lib → ⊥
 unfolding trials-of
 not-made-up lib h m =
     let z : _≡_ {A = ℕ} 0 1 =
@@ -122,9 +108,19 @@ not-made-up lib h m =
     omega arith
 
 -- "a listing that writes nothing"
-pub not-silent : (lib : Lister) → ((g : Given) (image r before : List ℕ) → lib g image r before .places ≡ before) → MeetsList lib → ⊥
+not-silent : (lib : Lister) → ((g : Given) (image r before : List ℕ) → lib g image r before .places ≡ before) → MeetsList lib → ⊥
 not-silent lib h m =
     let z : _≡_ {A = List ℕ} (7 ∷ 8 ∷ 9 ∷ []) (1 ∷ 0 ∷ 9 ∷ []) =
     sym (h given two-criteria register (7 ∷ 8 ∷ 9 ∷ [])) ∙ m given two-criteria register (7 ∷ 8 ∷ 9 ∷ []) .places ∙ lists-two in
     let w : _≡_ {A = ℕ} 7 1 = cc in
     omega arith
+
+-- all five
+pub ruled-out : RuledOut
+ruled-out = record {
+  refuses-all = not-refuse-all;
+  always-routes = not-always-route;
+  writes-nothing = not-silent;
+  idle-after = not-idle;
+  trials-made-up = not-made-up;
+}

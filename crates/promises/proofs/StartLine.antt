@@ -8,16 +8,16 @@ use lib.ListN.{length}
 use lib.Dec.{leb}
 use Rattle.octets.specs.Lists.{every}
 use Rattle.octets.specs.Option.{_>>=_, holds}
-use Rattle.cuts.specs.Cutting.{Cut, first-cut}
-use Rattle.request.specs.Request.{Request, Field, Start, empty-line, head-lines, head-byte, paired, head, start-line, continues, all-fields, whole-fields, read-request}
-use Rattle.promises.specs.Agreement.{first, line-of, start-of}
+use Rattle.cuts.specs.Cutting.{Cut, first-cut, first-line}
+use Rattle.request.specs.Request.{Request, Field, Start, empty-line, head-lines, head-byte, paired, read-head, start-line, continues, all-fields, whole-fields, read-request}
+use Rattle.promises.specs.Agreement.{line-of, start-of}
 
 -- what is read from it
 abbrev Reads : List ℕ → Option Request → Type 0
 Reads l none = Unit {0}
 Reads l (some q) = start-line l ≡ some (record { method = q .method; uri = q .uri })
 
-head-start : (ls : List (List ℕ)) (body : List ℕ) → Reads (first ls) (head ls body)
+head-start : (ls : List (List ℕ)) (body : List ℕ) → Reads (first-line ls) (read-head ls body)
 head-start [] body = tt
 head-start (l ∷ ls) body = go (start-line l) refl
   where
@@ -38,16 +38,16 @@ request-start : (s : List ℕ) → Reads (start-of s) (read-request s)
 unfolding read-request start-of
 request-start s = length-ok (holds (leb (length s) 65535))
   where
-    bytes-ok : (c : Cut) (o : Option (Unit {0})) → Reads (first (head-lines (c .before))) (o >>= (λ u. head (head-lines (c .before)) (c .after)))
+    bytes-ok : (c : Cut) (o : Option (Unit {0})) → Reads (first-line (head-lines (c .before))) (o >>= (λ u. read-head (head-lines (c .before)) (c .after)))
     bytes-ok c none = tt
     bytes-ok c (some u) = head-start (head-lines (c .before)) (c .after)
 
-    cut-ok : (o : Option Cut) → Reads (line-of o) (o >>= (λ c. holds (every head-byte (c .before) && paired 0 (c .before)) >>= (λ u. head (head-lines (c .before)) (c .after))))
+    cut-ok : (o : Option Cut) → Reads (line-of o) (o >>= (λ c. holds (every head-byte (c .before) && paired 0 (c .before)) >>= (λ u. read-head (head-lines (c .before)) (c .after))))
     cut-ok none = tt
     cut-ok (some c) = bytes-ok c (holds (every head-byte (c .before) && paired 0 (c .before)))
 
     length-ok : (o : Option (Unit {0})) → Reads (line-of (first-cut empty-line s))
-        (o >>= (λ u. first-cut empty-line s >>= (λ c. holds (every head-byte (c .before) && paired 0 (c .before)) >>= (λ v. head (head-lines (c .before)) (c .after)))))
+        (o >>= (λ u. first-cut empty-line s >>= (λ c. holds (every head-byte (c .before) && paired 0 (c .before)) >>= (λ v. read-head (head-lines (c .before)) (c .after)))))
     length-ok none = tt
     length-ok (some u) = cut-ok (first-cut empty-line s)
 

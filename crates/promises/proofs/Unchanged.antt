@@ -121,7 +121,7 @@ listing-unchanged g image r before = go (judge image)
 -- ---- lookups
 
 looked-empty : (part : Criterion → Option Stored) (j : Judged) (i : ℕ) → (look-judged part j i .refusal ≡ 0 → ⊥) → LookupEmpty (look-judged part j i)
-looked-empty part (refused n place) i = λ h. record { present = refl; start = refl; length = refl }
+looked-empty part (refused n place) i = λ h. record { present = refl; start = refl; size = refl }
 looked-empty part (accepted p) i = go (getElem? (p .criteria) i)
   where
     found : (o : Option Stored) → (the-part o .refusal ≡ 0 → ⊥) → LookupEmpty (the-part o)
@@ -129,7 +129,7 @@ looked-empty part (accepted p) i = go (getElem? (p .criteria) i)
     found (some x) h = absurd (h refl)
 
     go : (o : Option Criterion) → (look-at part o .refusal ≡ 0 → ⊥) → LookupEmpty (look-at part o)
-    go none h = record { present = refl; start = refl; length = refl }
+    go none h = record { present = refl; start = refl; size = refl }
     go (some c) h = found (part c) h
 
 pub server-empty : (image : List ℕ) (i : ℕ) → (server image i .refusal ≡ 0 → ⊥) → LookupEmpty (server image i)

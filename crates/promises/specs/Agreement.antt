@@ -10,7 +10,7 @@ use Rattle.pattern.specs.Matching.{name-matches}
 use Rattle.profile.specs.Image.{Test, request-uri, method, header, session-case, description, Row, Profile, accepted, refused}
 use Rattle.profile.specs.Judging.{judge}
 use Rattle.contents.specs.Description.{content-type}
-use Rattle.cuts.specs.Cutting.{Cut, first-cut}
+use Rattle.cuts.specs.Cutting.{Cut, first-cut, first-line}
 use Rattle.request.specs.Request.{Request, Field, empty-line, head-lines, read-request}
 
 -- ---- the profile's part
@@ -46,15 +46,10 @@ asked rows name = any-header rows name || any-description rows && content-type n
 
 -- ---- the requests' part
 
--- the first line, or nothing
-abbrev pub first : List (List ℕ) → List ℕ
-first [] = []
-first (l ∷ ls) = l
-
 -- of a head, if there is one
 abbrev pub line-of : Option Cut → List ℕ
 line-of none = []
-line-of (some c) = first (head-lines (c .before))
+line-of (some c) = first-line (head-lines (c .before))
 
 -- "the start line": the first line of the head
 unfoldable pub start-of : List ℕ → List ℕ

@@ -6,8 +6,7 @@ use mathlib.Core.List.{List, [], _∷_}
 use lib.ListN.{length}
 use lib.Dec.{T, eqb}
 use Rattle.octets.specs.Lists.{text, every}
-use Rattle.profile.specs.Examples.{row-of, member-of, criterion-of}
-use Rattle.profile.specs.Written.{written}
+use Rattle.profile.specs.Written.{row-of, member-of, criterion-of, written}
 use Rattle.entries.specs.declared.Row.{Row}
 use Rattle.entries.specs.declared.Member.{Member}
 use Rattle.session.specs.Session.{fresh, report-session}

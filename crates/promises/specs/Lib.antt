@@ -1,7 +1,10 @@
 pub mod Agreement
 pub mod Calls
 pub mod Common
+pub mod EachCall
+pub mod Libraries
 pub mod Marked
+pub mod Pairs
 pub mod Passed
 pub mod Reached
 pub mod Refusals

@@ -9,8 +9,7 @@ use Rattle.octets.specs.Lists.{text, every, agree}
 use Rattle.basic.specs.Pattern.{Pattern}
 use Rattle.basic.specs.Reading.{read-pattern}
 use Rattle.pattern.specs.Matching.{written-matches}
-use Rattle.profile.specs.Examples.{row-of, member-of, criterion-of}
-use Rattle.profile.specs.Written.{written}
+use Rattle.profile.specs.Written.{row-of, member-of, criterion-of, written}
 use Rattle.entries.specs.declared.Row.{Row}
 use Rattle.entries.specs.declared.Criterion.{Criterion}
 use Rattle.session.specs.Session.{fresh}

@@ -30,20 +30,15 @@ pub record Line : Type 0 where
 abbrev pub at-0 : Bool → ℕ → Line
 at-0 b n = record { holds = b; number = n; place = 0 }
 
--- a refusal's number and place; 0 and 0 is none
-pub record Refusal : Type 0 where
-  pub number : ℕ
-  pub place : ℕ
+-- number and place are those of the first line that holds: it holds, and none earlier does; 0 and 0 where none holds
+pub data First : List Line → ℕ → ℕ → Type 0 where
+  none-holds : First [] 0 0
+  this-one : {l : Line} {ls : List Line} → T (l .holds) → First (l ∷ ls) (l .number) (l .place)
+  a-later-one : {l : Line} {ls : List Line} {n place : ℕ} → T (not (l .holds)) → First ls n place → First (l ∷ ls) n place
 
--- no refusal
-abbrev pub no-refusal : Refusal
-no-refusal = record { number = 0; place = 0 }
-
--- r is that of the first line that holds: it holds, and none earlier does
-pub data First : List Line → Refusal → Type 0 where
-  none-holds : First [] no-refusal
-  this-one : {l : Line} {ls : List Line} → T (l .holds) → First (l ∷ ls) (record { number = l .number; place = l .place })
-  a-later-one : {l : Line} {ls : List Line} {r : Refusal} → T (not (l .holds)) → First ls r → First (l ∷ ls) r
+-- the number alone, of a call that answers no place
+pub data FirstNumber (ls : List Line) (n : ℕ) : Type 0 where
+  numbered : (place : ℕ) → First ls n place → FirstNumber ls n
 
 -- ---- the lines
 
@@ -143,7 +138,7 @@ pub record ListingUnchanged (before : List ℕ) (l : Listing) : Type 0 where
 pub record LookupEmpty (a : Lookup) : Type 0 where
   pub present : a .present ≡ false
   pub start : a .start ≡ 0
-  pub length : a .length ≡ 0
+  pub size : a .size ≡ 0
 
 -- a show's numbers
 pub record ShowEmpty (a : Answer) : Type 0 where

@@ -13,14 +13,14 @@ use lib.Seq.{length-take-le, take-take}
 use Rattle.octets.specs.Bytes.{white}
 use Rattle.octets.specs.Lists.{every}
 use Rattle.octets.proofs.Tests.{test-cases, T-of, right}
-use Rattle.cuts.specs.Cutting.{begins, first-line, later-lines}
-use Rattle.cuts.specs.Parts.{part}
-use Rattle.cuts.specs.Searching.{first}
+use Rattle.cuts.specs.Cutting.{begins, first-line}
+use Rattle.cuts.specs.Inner.Parts.{part}
+use Rattle.cuts.specs.Inner.Searching.{first}
 use Rattle.cuts.proofs.Parts.{part-front, length-part}
 use Rattle.cuts.proofs.Search.{first-le, first-holds, begins-long}
-use Rattle.request.specs.Places.{head-of, field-lines, fields-start}
-use Rattle.request.specs.Request.{Field, Request, Start, head-byte, paired, head-lines, whole-fields, start-line, all-fields, head, empty-line, read-request, bytes-right, parts-right}
-use Rattle.request.specs.Steps.{start-places, lines-from, judged}
+use Rattle.request.specs.Inner.Places.{head-of, field-lines, fields-start, later-lines}
+use Rattle.request.specs.Request.{Field, Request, Start, head-byte, paired, head-lines, whole-fields, start-line, all-fields, read-head, empty-line, read-request, bytes-right, parts-right}
+use Rattle.request.specs.Inner.Steps.{start-places, lines-from, judged}
 use Rattle.request.specs.declared.Judged.{Judged}
 use Rattle.request.specs.declared.Judged.the-variants.{Refused, Accepted}
 use Rattle.request.specs.declared.start_lines.StartLine.the-variants.{Bad}
@@ -134,7 +134,7 @@ refused-not j e m u f a r = let z : _≡_ {A = ℕ} 0 1 = cc in omega arith
 
 -- the head h has right bytes, and the body follows it
 module _ (s : List ℕ) (e₀ : ℕ) (short : length s ≤ 65535) (inside : e₀ + 4 ≤ length s) (front : head-of s ≡ take e₀ s) (right-pairs : T (paired 0 (take e₀ s)))
-    (reads : read-request s ≡ head (head-lines (take e₀ s)) (drop (e₀ + 4) s)) (e m u f : ℕ) (q : Accepted e m u f ≡ judged (head-of s) (read-request s)) where
+    (reads : read-request s ≡ read-head (head-lines (take e₀ s)) (drop (e₀ + 4) s)) (e m u f : ℕ) (q : Accepted e m u f ≡ judged (head-of s) (read-request s)) where
   abbrev h : List ℕ
   h = take e₀ s
 
@@ -162,7 +162,7 @@ module _ (s : List ℕ) (e₀ : ℕ) (short : length s ≤ 65535) (inside : e₀
   abbrev fields : Option (List Field)
   fields = all-fields (lines-from h (n + 2))
 
-  lines-are : head (head-lines h) body ≡ built body (start-line line) fold fields
+  lines-are : read-head (head-lines h) body ≡ built body (start-line line) fold fields
   lines-are = head-built h n (omega (arith, long-h), right-pairs) (sym (zero-add n)) body fold refl
 
   whole : Built h body (start-line line) fold fields e m u f

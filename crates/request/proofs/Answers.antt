@@ -9,11 +9,11 @@ use lib.ListN.{length, take, drop}
 use lib.Seq.{length-take-le}
 use Rattle.octets.specs.Option.{_>>=_}
 use Rattle.octets.proofs.Tests.{T-of}
-use Rattle.cuts.specs.Parts.{over}
+use Rattle.cuts.specs.Inner.Parts.{over}
 use Rattle.cuts.proofs.Parts.{length-part}
-use Rattle.request.specs.Places.{head-of, field-lines, fields-start, line-starts, line-colons, lines-start, reading, starts-of, colons-of, Read, Rooms, or-blank, request-of}
+use Rattle.request.specs.Inner.Places.{head-of, field-lines, fields-start, line-starts, line-colons, lines-start, reading, starts-of, colons-of, Read, Rooms, or-blank, request-of}
 use Rattle.request.specs.Request.{Field, Request, field, all-fields, read-request}
-use Rattle.request.specs.Steps.{is-some, lines-from, judged, Fillable, Filled}
+use Rattle.request.specs.Inner.Steps.{is-some, lines-from, judged, Fillable, Filled}
 use Rattle.request.specs.declared.Judged.{Judged}
 use Rattle.request.specs.declared.Judged.the-variants.{Refused, Accepted}
 use Rattle.request.specs.declared.Reading.the-variants.{Unreadable, Readable}

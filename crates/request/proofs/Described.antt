@@ -7,16 +7,16 @@ use native.Mathlib.Omega.{arith}
 use lib.ListN.{length, take, drop, drop-of-length-le}
 use borrow.Author.Tests.{not-true, not-false}
 use Rattle.octets.specs.Lists.{pick, only}
-use Rattle.cuts.specs.Parts.{part, over}
+use Rattle.cuts.specs.Inner.Parts.{part, over}
 use Rattle.cuts.proofs.Parts.{length-part}
 use Rattle.contents.specs.Body.{session-lines}
 use Rattle.contents.specs.Description.{content-type, one-description}
 use Rattle.contents.specs.Names.{name-as-matched}
-use Rattle.contents.specs.Places.{values-from}
+use Rattle.contents.specs.Inner.Places.{values-from}
 use Rattle.contents.specs.Values.{reduced, values-of}
 use Rattle.contents.proofs.Describing.{type-values}
 use Rattle.contents.proofs.Laws.{reduced-front}
-use Rattle.request.specs.Places.{head-of, Fielded, request-of, field-parts, lines-start}
+use Rattle.request.specs.Inner.Places.{head-of, Fielded, request-of, field-parts, lines-start}
 use Rattle.request.specs.Request.{Field, Request, described-by, is-description, request-lines}
 use Rattle.request.specs.declared.FieldParts.{FieldParts}
 use Rattle.request.proofs.Indexing.{FieldSays, field-says, short, few, head-inside, body-is, body-length}

@@ -10,11 +10,11 @@ use lib.Seq.{getD-drop}
 use borrow.Author.Tests.{eq-eqb, ne-eqb}
 use Rattle.octets.specs.Bytes.{white}
 use Rattle.cuts.specs.Cutting.{begins}
-use Rattle.cuts.specs.Searching.{first}
+use Rattle.cuts.specs.Inner.Searching.{first}
 use Rattle.cuts.proofs.Search.{Came, begins-at, before-length}
-use Rattle.request.specs.Places.{head-of}
+use Rattle.request.specs.Inner.Places.{head-of}
 use Rattle.request.specs.Request.{empty-line}
-use Rattle.request.specs.Steps.{line-break}
+use Rattle.request.specs.Inner.Steps.{line-break}
 
 -- ---- CR LF CR LF
 

@@ -12,8 +12,8 @@ use lib.Dec.{T}
 use lib.Seq.{length-take-le}
 use Rattle.octets.specs.Lists.{pick, total}
 use Rattle.octets.proofs.Options.{Ok}
-use Rattle.cuts.specs.Parts.{part}
-use Rattle.cuts.specs.Searching.{first}
+use Rattle.cuts.specs.Inner.Parts.{part}
+use Rattle.cuts.specs.Inner.Searching.{first}
 use Rattle.cuts.specs.Trimming.{trim-right}
 use Rattle.cuts.proofs.Parts.{length-part}
 use Rattle.cuts.proofs.Trims.{trim-le}
@@ -22,9 +22,9 @@ use Rattle.contents.specs.Names.{name-as-matched}
 use Rattle.contents.specs.Values.{reduced}
 use Rattle.contents.proofs.Norm.{reduced-le}
 use Rattle.contents.proofs.Small.{values-length, session-lines-length}
-use Rattle.request.specs.Places.{colon-in, head-of}
+use Rattle.request.specs.Inner.Places.{colon-in, head-of}
 use Rattle.request.specs.Request.{Request, Field, paired, field, all-fields, read-request, is-description, request-lines}
-use Rattle.request.specs.Steps.{line-break, lines-from, judged}
+use Rattle.request.specs.Inner.Steps.{line-break, lines-from, judged}
 use Rattle.request.proofs.Accepted.{Accepts, accepts}
 use Rattle.request.proofs.Fields.{end-order, end-inside}
 use Rattle.request.proofs.Lines.{line-here, line-next, line-past}

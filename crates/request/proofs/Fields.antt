@@ -14,17 +14,17 @@ use Rattle.octets.specs.Bytes.{token}
 use Rattle.octets.specs.Lists.{every, empty}
 use Rattle.octets.specs.Option.{_>>=_, holds}
 use Rattle.cuts.specs.Cutting.{Cut, begins}
-use Rattle.cuts.specs.Parts.{part}
-use Rattle.cuts.specs.Searching.{first}
+use Rattle.cuts.specs.Inner.Parts.{part}
+use Rattle.cuts.specs.Inner.Searching.{first}
 use Rattle.cuts.specs.Trimming.{trim-right}
 use Rattle.cuts.proofs.Parts.{length-part}
 use Rattle.cuts.proofs.Search.{first-le, cut-found, cut-missing}
 use Rattle.cuts.proofs.Trims.{trim-front, trim-le}
 use Rattle.contents.specs.Names.{name-as-matched}
 use Rattle.contents.specs.Values.{reduced, values-of}
-use Rattle.request.specs.Places.{line-starts, colon-in, line-colons}
+use Rattle.request.specs.Inner.Places.{line-starts, colon-in, line-colons}
 use Rattle.request.specs.Request.{Field, paired, field}
-use Rattle.request.specs.Steps.{line-break, word-byte, is-some, is-field, lines-from}
+use Rattle.request.specs.Inner.Steps.{line-break, word-byte, is-some, is-field, lines-from}
 use Rattle.request.proofs.Lines.{line-here, line-next, line-past}
 
 -- the field whose colon stands at k

@@ -12,14 +12,14 @@ use Rattle.octets.specs.Bytes.{token}
 use Rattle.octets.specs.Lists.{every}
 use Rattle.octets.proofs.Tests.{left, right}
 use Rattle.cuts.specs.Cutting.{begins}
-use Rattle.cuts.specs.Parts.{part}
-use Rattle.cuts.specs.Searching.{first}
+use Rattle.cuts.specs.Inner.Parts.{part}
+use Rattle.cuts.specs.Inner.Searching.{first}
 use Rattle.cuts.specs.Trimming.{trim-right}
 use Rattle.cuts.proofs.Search.{before-length}
 use Rattle.cuts.proofs.Writing.{Written, written-start, written-put, written-end, written-length}
-use Rattle.request.specs.Places.{line-starts, colon-in, line-colons}
+use Rattle.request.specs.Inner.Places.{line-starts, colon-in, line-colons}
 use Rattle.request.specs.Request.{paired}
-use Rattle.request.specs.Steps.{line-break, is-some, is-field, lines-from, Fillable, Filled}
+use Rattle.request.specs.Inner.Steps.{line-break, is-some, is-field, lines-from, Fillable, Filled}
 use Rattle.request.proofs.Fields.{field-at, field-no-colon, field-named, some-holds, end-inside, line-long, starts-here, colons-here}
 use Rattle.request.proofs.Lines.{line-here, line-next, line-past}
 

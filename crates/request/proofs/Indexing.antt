@@ -15,17 +15,17 @@ use Rattle.octets.specs.Bytes.{token, white}
 use Rattle.octets.specs.Lists.{pick}
 use Rattle.octets.proofs.Tests.{left, T-of, is-true}
 use Rattle.cuts.specs.Cutting.{begins}
-use Rattle.cuts.specs.Parts.{part}
-use Rattle.cuts.specs.Searching.{first}
+use Rattle.cuts.specs.Inner.Parts.{part}
+use Rattle.cuts.specs.Inner.Searching.{first}
 use Rattle.cuts.specs.Trimming.{trim-right}
 use Rattle.cuts.proofs.Parts.{drop-take, length-part, part-front}
 use Rattle.cuts.proofs.Search.{first-le, first-holds, begins-long, before-length}
 use Rattle.cuts.proofs.Trims.{trim-le, trim-front}
 use Rattle.contents.specs.Names.{name-as-matched}
 use Rattle.contents.specs.Values.{reduced, values-of}
-use Rattle.request.specs.Places.{head-of, field-lines, fields-start, line-starts, colon-in, line-colons, reading, starts-of, colons-of, lines-start, places-of, Read, Placed, Fielded, request-of, parts-of, field-parts}
+use Rattle.request.specs.Inner.Places.{head-of, field-lines, fields-start, line-starts, colon-in, line-colons, reading, starts-of, colons-of, lines-start, places-of, Read, Placed, Fielded, request-of, parts-of, field-parts}
 use Rattle.request.specs.Request.{Field, Request, paired, read-request}
-use Rattle.request.specs.Steps.{line-break, lines-from, judged, Filled}
+use Rattle.request.specs.Inner.Steps.{line-break, lines-from, judged, Filled}
 use Rattle.request.specs.declared.FieldParts.{FieldParts}
 use Rattle.request.specs.declared.Judged.{Judged}
 use Rattle.request.specs.declared.Judged.the-variants.{Accepted}

@@ -15,11 +15,11 @@ use Rattle.octets.specs.Lists.{every}
 use Rattle.octets.specs.Option.{_>>=_, holds}
 use Rattle.octets.proofs.Tests.{right, T-of}
 use Rattle.cuts.specs.Cutting.{Cut, begins, push, first-cut, cut-by, before-cut, first-line}
-use Rattle.cuts.specs.Searching.{first}
+use Rattle.cuts.specs.Inner.Searching.{first}
 use Rattle.cuts.proofs.Search.{first-le, first-no, cut-found, cut-missing}
-use Rattle.request.specs.Places.{head-of, fields-start}
-use Rattle.request.specs.Request.{Field, Request, Start, head-byte, paired, head-lines, continues, whole-fields, start-line, field, all-fields, head, empty-line, read-request, bytes-right}
-use Rattle.request.specs.Steps.{start-places, is-some, is-field, lines-from, judged}
+use Rattle.request.specs.Inner.Places.{head-of, fields-start}
+use Rattle.request.specs.Request.{Field, Request, Start, head-byte, paired, head-lines, continues, whole-fields, start-line, field, all-fields, read-head, empty-line, read-request, bytes-right}
+use Rattle.request.specs.Inner.Steps.{start-places, is-some, is-field, lines-from, judged}
 use Rattle.request.specs.declared.Judged.{Judged}
 use Rattle.request.specs.declared.Judged.the-variants.{Refused, Accepted}
 use Rattle.request.specs.declared.start_lines.StartLine.{StartLine}
@@ -127,9 +127,9 @@ module _ (h : List ℕ) (n : ℕ) (pre : (length h ≤ 65535) × T (paired 0 h))
   rest-paired = pairs-paired (here .rest)
 
   pub head-built : (body : List ℕ) (folds : Bool) → folds ≡ white (getD h (n + 2) 0)
-      → head (head-lines h) body ≡ built body (start-line (take (n - 0) (drop 0 h))) folds (all-fields (lines-from h (n + 2)))
+      → read-head (head-lines h) body ≡ built body (start-line (take (n - 0) (drop 0 h))) folds (all-fields (lines-from h (n + 2)))
   head-built body folds ef =
-      ap (λ (ls : List (List ℕ)). head ls body) (here .lines)
+      ap (λ (ls : List (List ℕ)). read-head ls body) (here .lines)
       ∙ (λ i. built body (start-line (take (sym (sub-zero n) i) h)) ((here .folds ∙ sym ef) i) (all-fields (here .fields i)))
 
   abbrev line : List ℕ
@@ -139,24 +139,24 @@ module _ (h : List ℕ) (n : ℕ) (pre : (length h ≤ 65535) × T (paired 0 h))
   fields = all-fields (lines-from h (n + 2))
 
   module _ (b : ℕ) (eb : b ≡ getD h (n + 2) 0) (w : Bool) (ew : w ≡ white b) where
-    by-fold : (t : Bool) → w ≡ t → head (head-lines h) [] ≡ built [] (start-line line) t fields
+    by-fold : (t : Bool) → w ≡ t → read-head (head-lines h) [] ≡ built [] (start-line line) t fields
     by-fold t e = head-built [] w (ew ∙ ap white eb) ∙ ap (λ (x : Bool). built [] (start-line line) x fields) e
 
-    pub lines-fold : w ≡ true → Refused ≡ judged h (head (head-lines h) [])
+    pub lines-fold : w ≡ true → Refused ≡ judged h (read-head (head-lines h) [])
     lines-fold e = sym (ap (judged h) (by-fold true e) ∙ built-folds h [] (start-line line) fields)
 
     module _ (y : w ≡ false) (t : StartLine) (et : t ≡ start-places (start-line line)) where
-      pub lines-bad : t ≡ Bad → Refused ≡ judged h (head (head-lines h) [])
+      pub lines-bad : t ≡ Bad → Refused ≡ judged h (read-head (head-lines h) [])
       lines-bad e = sym (ap (judged h) (by-fold false y) ∙ built-bad h [] (start-line line) false fields (sym et ∙ e))
 
       module _ (m u : ℕ) (e : t ≡ Good m u) (r : Bool) (er : r ≡ every is-field (lines-from h (n + 2))) where
         some-is : is-some fields ≡ r
         some-is = all-fields-some (lines-from h (n + 2)) ∙ sym er
 
-        pub lines-wrong : r ≡ false → Refused ≡ judged h (head (head-lines h) [])
+        pub lines-wrong : r ≡ false → Refused ≡ judged h (read-head (head-lines h) [])
         lines-wrong q = sym (ap (judged h) (by-fold false y) ∙ built-wrong h [] (start-line line) false fields (some-is ∙ q))
 
-        pub lines-right : r ≡ true → Accepted (length h) m u (n + 2) ≡ judged h (head (head-lines h) [])
+        pub lines-right : r ≡ true → Accepted (length h) m u (n + 2) ≡ judged h (read-head (head-lines h) [])
         lines-right q =
             let start : fields-start h ≡ n + 2 = ap (λ (ls : List (List ℕ)). length (first-line ls) + 2) (here .lines) ∙ ap (λ (k : ℕ). k + 2) (length-take-le n h n-inside) in
             sym (ap (judged h) (by-fold false y) ∙ built-right h [] (start-line line) fields m u (sym et ∙ e) (some-is ∙ q) ∙ ap (Accepted (length h) m u) start)
@@ -170,7 +170,7 @@ body-free h b c (some t) false none = refl
 body-free h b c (some t) false (some l) = refl
 
 -- the body plays no part
-head-free : (h b c : List ℕ) (ls : List (List ℕ)) → judged h (head ls b) ≡ judged h (head ls c)
+head-free : (h b c : List ℕ) (ls : List (List ℕ)) → judged h (read-head ls b) ≡ judged h (read-head ls c)
 head-free h b c [] = refl
 head-free h b c (l ∷ ls) = body-free h b c (start-line l) (continues ls) (all-fields (whole-fields ls))
 
@@ -187,7 +187,7 @@ module _ (s : List ℕ) (short : length s ≤ 65535) (e : ℕ) (e-is : e ≡ len
   reading o = do
     c ← o
     _ ← holds (bytes-right (c .before))
-    head (head-lines (c .before)) (c .after)
+    read-head (head-lines (c .before)) (c .after)
 
   read-is : read-request s ≡ reading (first-cut empty-line s)
   unfolding read-request
@@ -209,10 +209,10 @@ module _ (s : List ℕ) (short : length s ≤ 65535) (e : ℕ) (e-is : e ≡ len
     unfolding head-of
     head-is-front = ap (before-cut s) cut
 
-    pub read-by-test : (t : Bool) → bytes-right (head-of s) ≡ t → read-request s ≡ (holds t >>= λ _. head (head-lines (take e s)) (drop (e + 4) s))
+    pub read-by-test : (t : Bool) → bytes-right (head-of s) ≡ t → read-request s ≡ (holds t >>= λ _. read-head (head-lines (take e s)) (drop (e + 4) s))
     read-by-test t q =
         read-is ∙ ap reading cut
-        ∙ ap (λ (x : Bool). holds x >>= λ _. head (head-lines (take e s)) (drop (e + 4) s)) (ap bytes-right (sym head-is-front) ∙ q)
+        ∙ ap (λ (x : Bool). holds x >>= λ _. read-head (head-lines (take e s)) (drop (e + 4) s)) (ap bytes-right (sym head-is-front) ∙ q)
 
     pub judge-bytes : bytes-right (head-of s) ≡ false → Refused ≡ judged (head-of s) (read-request s)
     judge-bytes n = sym (ap (judged (head-of s)) (read-by-test false n))
@@ -239,9 +239,9 @@ module _ (s : List ℕ) (short : length s ≤ 65535) (e : ℕ) (e-is : e ≡ len
         pub front-paired : T (paired 0 front)
         front-paired = right (every head-byte front) (paired 0 front) (T-of (sym er ∙ not-false r y))
 
-        pub judge-lines : (j : Judged) → j ≡ judged front (head (head-lines front) []) → j ≡ judged (head-of s) (read-request s)
+        pub judge-lines : (j : Judged) → j ≡ judged front (read-head (head-lines front) []) → j ≡ judged (head-of s) (read-request s)
         judge-lines j ej =
-            ej ∙ ap (λ (l : List ℕ). judged l (head (head-lines l) [])) front-is
+            ej ∙ ap (λ (l : List ℕ). judged l (read-head (head-lines l) [])) front-is
             ∙ head-free (take e s) [] (drop (e + 4) s) (head-lines (take e s))
-            ∙ ap (λ (l : List ℕ). judged l (head (head-lines (take e s)) (drop (e + 4) s))) (sym head-is-front)
+            ∙ ap (λ (l : List ℕ). judged l (read-head (head-lines (take e s)) (drop (e + 4) s))) (sym head-is-front)
             ∙ sym (ap (judged (head-of s)) (read-by-test true (right-is ∙ not-false r y)))

@@ -13,12 +13,12 @@ use Rattle.octets.specs.Bytes.{white}
 use Rattle.octets.specs.Lists.{pick, only}
 use Rattle.octets.proofs.Tests.{test-cases}
 use Rattle.cuts.specs.Cutting.{push, cut-by, cut-at}
-use Rattle.cuts.specs.Parts.{part}
-use Rattle.cuts.specs.Searching.{first}
+use Rattle.cuts.specs.Inner.Parts.{part}
+use Rattle.cuts.specs.Inner.Searching.{first}
 use Rattle.cuts.proofs.Search.{first-yes, first-no}
 use Rattle.cuts.proofs.From as F
 use Rattle.request.specs.Request.{paired, head-lines, continues, attach, whole-fields}
-use Rattle.request.specs.Steps.{line-break, lines-from}
+use Rattle.request.specs.Inner.Steps.{line-break, lines-from}
 use Rattle.request.proofs.Head.{Pairs, pairs-end, pairs-byte, pairs-fold, pairs, pairs-paired}
 
 abbrev whole : List ℕ → List (List ℕ)

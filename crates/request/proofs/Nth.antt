@@ -12,12 +12,12 @@ use lib.Seq.{drop-nil}
 use Rattle.octets.specs.Bytes.{token}
 use Rattle.octets.specs.Option.{_>>=_, holds}
 use Rattle.cuts.specs.Cutting.{begins}
-use Rattle.cuts.specs.Searching.{first}
+use Rattle.cuts.specs.Inner.Searching.{first}
 use Rattle.cuts.specs.Trimming.{trim-right}
 use Rattle.cuts.proofs.Search.{before-length}
-use Rattle.request.specs.Places.{colon-in}
+use Rattle.request.specs.Inner.Places.{colon-in}
 use Rattle.request.specs.Request.{Field, field, all-fields}
-use Rattle.request.specs.Steps.{is-some, is-field}
+use Rattle.request.specs.Inner.Steps.{is-some, is-field}
 use Rattle.request.proofs.Fields.{field-at, field-named}
 use Rattle.request.proofs.Filling.{colon-inside, name-there}
 

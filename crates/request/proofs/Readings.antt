@@ -8,10 +8,10 @@ use native.Mathlib.Omega.{arith}
 use lib.ListN.{length, take, drop}
 use Rattle.octets.specs.Lists.{total}
 use Rattle.octets.proofs.Options.{Ok}
-use Rattle.cuts.specs.Parts.{part}
+use Rattle.cuts.specs.Inner.Parts.{part}
 use Rattle.contents.specs.Body.{session-lines}
 use Rattle.request.specs.Request.{request-lines, Request, read-request}
-use Rattle.request.specs.Places.{head-of, fields-start, lines-start, Read, Placed, Fielded, Rooms, or-blank, request-of, field-parts}
+use Rattle.request.specs.Inner.Places.{head-of, fields-start, lines-start, Read, Placed, Fielded, Rooms, or-blank, request-of, field-parts}
 use Rattle.request.specs.declared.FieldParts.{FieldParts}
 use Rattle.request.specs.declared.Places.{Places}
 use Rattle.request.specs.declared.Reading.{Reading}

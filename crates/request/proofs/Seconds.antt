@@ -9,7 +9,7 @@ use lib.ListN.{length, getD, drop, List·getD-eq-default}
 use borrow.Author.Tests.{ne-eqb}
 use Rattle.cuts.specs.Cutting.{begins}
 use Rattle.cuts.proofs.Search.{Came, came-end, came-found, came-next}
-use Rattle.request.specs.Places.{head-of}
+use Rattle.request.specs.Inner.Places.{head-of}
 use Rattle.request.specs.Request.{empty-line}
 use Rattle.request.proofs.Ends.{empty-line-is, empty-none, head-first}
 

@@ -12,18 +12,19 @@ use lib.ListN.{length, getD, take, drop, drop-of-length-le, length-drop}
 use lib.Dec.{leb, eqb}
 use lib.Seq.{drop-cons, drop-drop, take-all, length-take-le}
 use borrow.Author.Tests.{not-true, not-false, ne-eqb, leb-true}
-use Rattle.octets.specs.Bytes.{class-of, token, within, lowers, same-any-case}
+use Rattle.octets.specs.Bytes.{token, within, lowers, same-any-case}
+use Rattle.octets.specs.Inner.Tables.{class-of}
 use Rattle.octets.specs.Lists.{text, every, empty, pick}
 use Rattle.octets.specs.Option.{_>>=_, holds}
 use Rattle.octets.proofs.Classes.{rules}
 use Rattle.octets.proofs.Equal.{lowers-length}
 use Rattle.octets.proofs.Tests.{left, T-of, is-true, same-eq}
 use Rattle.cuts.specs.Cutting.{begins, cut-at}
-use Rattle.cuts.specs.Parts.{part}
-use Rattle.cuts.specs.Searching.{first}
+use Rattle.cuts.specs.Inner.Parts.{part}
+use Rattle.cuts.specs.Inner.Searching.{first}
 use Rattle.cuts.proofs.Cuts.{cut-on, cut-last, nonempty}
 use Rattle.request.specs.Request.{Start, three, start-line, parts-right}
-use Rattle.request.specs.Steps.{word-byte, start-places}
+use Rattle.request.specs.Inner.Steps.{word-byte, start-places}
 use Rattle.request.specs.declared.start_lines.StartLine.the-variants.{Bad, Good}
 
 -- ---- words

@@ -1,4 +1,3 @@
 pub mod Examples
-pub mod Places
+pub mod Inner
 pub mod Request
-pub mod Steps

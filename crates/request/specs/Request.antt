@@ -109,9 +109,9 @@ all-fields (l ∷ ls) = do
 -- ---- the request
 
 -- the start line, and the lines after it: "none [that continues] may follow the start line directly"
-abbrev pub head : List (List ℕ) → List ℕ → Option Request
-head [] body = none
-head (l ∷ ls) body = do
+abbrev pub read-head : List (List ℕ) → List ℕ → Option Request
+read-head [] body = none
+read-head (l ∷ ls) body = do
   s ← start-line l
   _ ← holds (not (continues ls))
   fs ← all-fields (whole-fields ls)
@@ -128,7 +128,7 @@ read-request s = do
   _ ← holds (leb (length s) 65535)
   c ← first-cut empty-line s
   _ ← holds (bytes-right (c .before))
-  head (head-lines (c .before)) (c .after)
+  read-head (head-lines (c .before)) (c .after)
 
 -- ---- whether the body is a session description (document 02, change request 5)
 

@@ -3,9 +3,9 @@ ghost use mathlib.Core.Path.{_≡_};
 ghost use Prim.Native.Nat.{_≤_};
 ghost use lib.ListN.{length};
 ghost use Rattle.contents.specs.Description.{one-description};
-ghost use Rattle.contents.specs.Places.{values-from};
+ghost use Rattle.contents.specs.Inner.Places.{values-from};
 ghost use Rattle.contents.specs.Values.{reduced};
-ghost use Rattle.request.specs.Places.{head-of, Fielded, request-of, lines-start};
+ghost use Rattle.request.specs.Inner.Places.{head-of, Fielded, request-of, lines-start};
 ghost use Rattle.request.specs.Request.{is-description};
 use crate::parts_at;
 

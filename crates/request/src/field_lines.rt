@@ -3,11 +3,11 @@ ghost use mathlib.Core.Path.{_≡_};
 ghost use Prim.Native.Nat.{_+_, _≤_, _<_};
 ghost use lib.Dec.{T};
 ghost use lib.ListN.{length, drop};
-ghost use Rattle.octets.specs.Bytes.{Classes};
+ghost use Rattle.octets.specs.Inner.Tables.{Classes};
 ghost use Rattle.octets.specs.Lists.{every};
-ghost use Rattle.cuts.specs.Searching.{first};
+ghost use Rattle.cuts.specs.Inner.Searching.{first};
 ghost use Rattle.request.specs.Request.{paired};
-ghost use Rattle.request.specs.Steps.{line-break, is-field, lines-from};
+ghost use Rattle.request.specs.Inner.Steps.{line-break, is-field, lines-from};
 use crate::start_lines::is_word;
 
 // Whether a line with its folds is a field: name token, any SP or HTAB, colon, value.

@@ -3,7 +3,7 @@ ghost use mathlib.Core.Path.{_≡_};
 ghost use Prim.Native.Nat.{ℕ, _+_, _-_, _*_, _/_, _≤_, _<_};
 ghost use lib.ListN.{length, getD, drop};
 ghost use Rattle.cuts.specs.Cutting.{begins};
-ghost use Rattle.request.specs.Places.{head-of};
+ghost use Rattle.request.specs.Inner.Places.{head-of};
 ghost use Rattle.request.specs.Request.{empty-line};
 
 // Whether CR LF CR LF stands at i.

@@ -6,9 +6,9 @@ ghost use Prim.Native.Nat.{_+_, _-_, _≤_, _<_};
 ghost use lib.Dec.{T, ltb};
 ghost use lib.ListN.{length, getD};
 ghost use Rattle.octets.specs.Lists.{pick};
-ghost use Rattle.request.specs.Places.{head-of, Rooms, Read, Placed, Fielded, field-parts};
-ghost use Rattle.request.specs.Request.{paired, head-lines, head, read-request};
-ghost use Rattle.request.specs.Steps.{judged, Fillable, Filled};
+ghost use Rattle.request.specs.Inner.Places.{head-of, Rooms, Read, Placed, Fielded, field-parts};
+ghost use Rattle.request.specs.Request.{paired, head-lines, read-head, read-request};
+ghost use Rattle.request.specs.Inner.Steps.{judged, Fillable, Filled};
 
 mod descriptions;
 mod field_lines;
@@ -40,7 +40,7 @@ enum Judged {
 // The lines of a head whose bytes are right.
 fn judge_lines(h: &[u8]) -> Judged
     requires { ⌜ (length (now h) ≤ 65535) × T (paired 0 (now h)) ⌝ }
-    ensures { λ r. ⌜ r ≡ judged (now (h .entry)) (head (head-lines (now (h .entry))) []) ⌝ }
+    ensures { λ r. ⌜ r ≡ judged (now (h .entry)) (read-head (head-lines (now (h .entry))) []) ⌝ }
 {
     let n = cuts::place_of(h, 0, 13);
     // "none may follow the start line directly" (document 01): no line that continues it

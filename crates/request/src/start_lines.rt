@@ -3,11 +3,11 @@ ghost use mathlib.Core.Path.{_≡_};
 ghost use mathlib.Core.Bool.{not, _&&_};
 ghost use Prim.Native.Nat.{_+_, _<_};
 ghost use lib.ListN.{length, take, drop};
-ghost use Rattle.octets.specs.Bytes.{Classes};
+ghost use Rattle.octets.specs.Inner.Tables.{Classes};
 ghost use Rattle.octets.specs.Lists.{every, empty};
-ghost use Rattle.cuts.specs.Parts.{part};
+ghost use Rattle.cuts.specs.Inner.Parts.{part};
 ghost use Rattle.request.specs.Request.{start-line, parts-right};
-ghost use Rattle.request.specs.Steps.{word-byte, start-places};
+ghost use Rattle.request.specs.Inner.Steps.{word-byte, start-places};
 
 // A start line: where its method ends and where its URI ends.
 pub(crate) enum StartLine {

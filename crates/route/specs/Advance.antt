@@ -25,8 +25,8 @@ abbrev pub refuse : Session → ℕ → ℕ → Advanced
 refuse x n place = record { refusal = n; place = place; outcome = 0; number = 0; priority = 0; examined = 0; trials = 0; session = x }
 
 -- "forward (criterion's number from 0 in the image, priority), session waiting", which keeps that priority and default
-abbrev pub forward-of : Session → ℕ → ℕ → ℕ → ℕ → ℕ → Advanced
-forward-of x number priority handling examined trials = record {
+abbrev pub forward : Session → ℕ → ℕ → ℕ → ℕ → ℕ → Advanced
+forward x number priority handling examined trials = record {
   refusal = 0;
   place = 0;
   outcome = 1;
@@ -36,10 +36,6 @@ forward-of x number priority handling examined trials = record {
   trials = trials;
   session = forwarded-to x priority handling;
 }
-
--- of a criterion
-abbrev pub forward : Session → Numbered → ℕ → ℕ → Advanced
-forward x n = forward-of x (n .number) (priority n) (n .criterion .handling)
 
 -- "or route, session finished (both numbers 0, as when refused)"
 abbrev pub route : Session → ℕ → ℕ → Advanced
@@ -57,7 +53,7 @@ route x examined trials = record {
 -- the one found, or none
 abbrev pub answer : Session → Option Numbered → ℕ → ℕ → Advanced
 answer x none examined trials = route x examined trials
-answer x (some n) examined trials = forward x n examined trials
+answer x (some n) examined trials = forward x (n .number) (priority n) (n .criterion .handling) examined trials
 
 -- ---- the walk
 

@@ -1,3 +1,3 @@
 pub mod Advance
 pub mod Examples
-pub mod Walk
+pub mod Inner

@@ -12,24 +12,24 @@ use lib.Seq.{take-all}
 use borrow.Author.Tests.{eqb-false, eq-eqb, ne-eqb}
 use Rattle.octets.specs.Lists.{pick, same}
 use Rattle.machine.specs.declared.Shape.{Shape}
-use Rattle.pattern.specs.Prepared.{Ready}
+use Rattle.pattern.specs.Inner.Prepared.{Ready}
 use Rattle.basic.specs.Reading.{read-pattern}
-use Rattle.profile.specs.Decoded.{stored-in, string-of, or-empty, pattern-of, or-absent, test-from, row-from}
+use Rattle.profile.specs.Inner.Decoded.{stored-in, string-of, or-empty, pattern-of, or-absent, test-from, row-from}
 use Rattle.profile.specs.Image.{Stored, Test, request-uri, method, header, session-case, description}
-use Rattle.profile.specs.Kept.{Standing, nth-row, ByPattern, Matchable}
-use Rattle.entries.specs.Places.{row-numbers}
+use Rattle.profile.specs.Inner.Kept.{Standing, nth-row, ByPattern, Matchable}
+use Rattle.entries.specs.Inner.Places.{row-numbers}
 use Rattle.profile.specs.declared.Layout.{Layout}
 use Rattle.entries.specs.declared.Row.{Row}
 use Rattle.profile.proofs.Standings.{strings-in, row-matchable}
-use Rattle.cuts.specs.Parts.{part}
+use Rattle.cuts.specs.Inner.Parts.{part}
 use Rattle.contents.specs.Body.{Line, session-lines}
 use Rattle.request.specs.Request.{request-lines, Request}
-use Rattle.request.specs.Places.{request-of, Placed}
+use Rattle.request.specs.Inner.Places.{request-of, Placed}
 use Rattle.rows.specs.Rows.{registration-fits, test-fits, test-trials, row-fits, row-trials}
 use Rattle.rows.specs.declared.Given.{Given}
-use Rattle.rows.specs.Tried.{Spare, Tried}
-use Rattle.trials.specs.Trying.{field-row, line-row, all-rows, most-trials}
-use Rattle.rows.specs.Trying.{one-trial, patterns-row, test-row}
+use Rattle.rows.specs.Inner.Tried.{Spare, Tried}
+use Rattle.trials.specs.Inner.Trying.{field-row, line-row, all-rows, most-trials}
+use Rattle.rows.specs.Inner.Trying.{one-trial, patterns-row, test-row}
 use Rattle.request.specs.declared.Places.{Places}
 use Rattle.trials.specs.declared.Verdict.{Verdict}
 use Rattle.rows.proofs.Patterns.{read-some, fields-as, lines-as}

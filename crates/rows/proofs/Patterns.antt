@@ -7,14 +7,15 @@ use Prim.Native.Nat.{ℕ}
 use native.Mathlib.Omega.{arith}
 use lib.ListN.{length}
 use Rattle.octets.specs.Lists.{pick, some-of, total}
-use Rattle.basic.specs.Reading.{was-read, is-pattern, read-pattern}
-use Rattle.pattern.specs.Answers.{read-matches, meets-text}
+use Rattle.basic.specs.Reading.{read-pattern}
+use Rattle.basic.specs.Inner.Judged.{was-read, is-pattern}
+use Rattle.pattern.specs.Inner.Answers.{read-matches, meets-text}
 use Rattle.basic.specs.Pattern.{Pattern}
-use Rattle.profile.specs.Decoded.{or-empty}
+use Rattle.profile.specs.Inner.Decoded.{or-empty}
 use Rattle.contents.specs.Body.{Line}
 use Rattle.request.specs.Request.{Field}
 use Rattle.rows.specs.Rows.{field-fits, line-fits, field-trials, line-trials}
-use Rattle.trials.specs.Trying.{values-row, named-row, item-row, field-row, line-row, all-rows}
+use Rattle.trials.specs.Inner.Trying.{values-row, named-row, item-row, field-row, line-row, all-rows}
 use Rattle.trials.specs.declared.Verdict.{Verdict}
 
 -- bytes that are a pattern are read as one

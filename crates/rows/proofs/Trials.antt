@@ -11,7 +11,7 @@ use Rattle.pattern.specs.Matching.{written-matches, name-matches}
 use Rattle.profile.specs.Image.{Test, request-uri, method, header, session-case, description, Row}
 use Rattle.request.specs.Request.{Request, request-lines}
 use Rattle.request.proofs.Few.{weight, Small, body-lines-few}
-use Rattle.trials.specs.Trying.{most-trials}
+use Rattle.trials.specs.Inner.Trying.{most-trials}
 use Rattle.rows.specs.Rows.{content-trials, field-trials, line-trials, test-trials, row-trials}
 
 content-le : (c : Option Pattern) (b : Bool) (n : ℕ) → content-trials c b n ≤ n

@@ -1,4 +1,3 @@
 pub mod Examples
+pub mod Inner
 pub mod Rows
-pub mod Tried
-pub mod Trying

@@ -18,6 +18,10 @@ use Rattle.rows.specs.declared.Given.{Given}
 abbrev pub REGISTER : List ℕ
 REGISTER = text "REGISTER"
 
+-- what the host gives with a request: the session case and the registration type
+abbrev pub given : ℕ → ℕ → Given
+given case registration = record { case = case; registration = registration }
+
 -- ---- whether it fits
 
 -- "for REGISTER with a nonempty set the registration type must also be in it": "bit 0 initial, 1 re-registration, 2 de-registration"

@@ -4,18 +4,18 @@ use mathlib.Core.Path.{_≡_, sym, ap, ap₂, _∙_}
 use mathlib.Core.List.{List}
 use Prim.Native.Nat.{ℕ, _+_, _*_, _≤_, _<_}
 use lib.ListN.{getElem?}
-use Rattle.entries.specs.Places.{row-numbers}
+use Rattle.entries.specs.Inner.Places.{row-numbers}
 use Rattle.entries.specs.declared.Row.{Row}
-use Rattle.profile.specs.Decoded.{stored-in, test-from, row-from, profile-in}
+use Rattle.profile.specs.Inner.Decoded.{stored-in, test-from, row-from, profile-in}
 use Rattle.profile.specs.Image.{Stored, Judged}
 use Rattle.profile.specs.Image as image
 use Rattle.profile.specs.Judging.{judge}
-use Rattle.profile.specs.Kept.{Judges, Standing, nth-row}
+use Rattle.profile.specs.Inner.Kept.{Judges, Standing, nth-row}
 use Rattle.profile.specs.declared.Judgement.{Judgement}
 use Rattle.profile.specs.declared.Layout.{Layout}
 use Rattle.profile.proofs.Standings.{strings-in, row-is, row-past, refused-as, stands-as, accepted-as}
 use Rattle.request.specs.Request.{Request, read-request}
-use Rattle.request.specs.Places.{Read, request-of}
+use Rattle.request.specs.Inner.Places.{Read, request-of}
 use Rattle.request.specs.declared.Places.{Places}
 use Rattle.request.specs.declared.Reading.{Reading}
 use Rattle.request.specs.declared.Reading.the-variants.{Unreadable, Readable}

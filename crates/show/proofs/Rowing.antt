@@ -10,28 +10,28 @@ use borrow.Author.Tests.{eqb-false, ne-eqb}
 use Rattle.octets.specs.Lists.{pick}
 use Rattle.basic.specs.Pattern.{Pattern}
 use Rattle.basic.specs.Reading.{read-pattern}
-use Rattle.pattern.specs.Answers.{read-matches, meets-text}
-use Rattle.place.specs.Place.{place-read, place-text}
+use Rattle.pattern.specs.Inner.Answers.{read-matches, meets-text}
+use Rattle.place.specs.Inner.Texts.{place-read, place-text}
 use Rattle.contents.specs.Body.{Line, session-lines}
-use Rattle.entries.specs.Places.{row-numbers}
+use Rattle.entries.specs.Inner.Places.{row-numbers}
 use Rattle.entries.specs.declared.Row.{Row}
-use Rattle.profile.specs.Decoded.{stored-in, string-of, or-empty, pattern-of, test-from, row-from}
+use Rattle.profile.specs.Inner.Decoded.{stored-in, string-of, or-empty, pattern-of, test-from, row-from}
 use Rattle.profile.specs.Image.{Stored}
-use Rattle.profile.specs.Kept.{Standing, nth-row, ByPattern, Matchable}
+use Rattle.profile.specs.Inner.Kept.{Standing, nth-row, ByPattern, Matchable}
 use Rattle.profile.specs.declared.Layout.{Layout}
 use Rattle.profile.proofs.Standings.{strings-in}
 use Rattle.request.specs.Request.{Request, Field, request-lines}
-use Rattle.request.specs.Places.{request-of, Placed}
+use Rattle.request.specs.Inner.Places.{request-of, Placed}
 use Rattle.request.specs.declared.Places.{Places}
 use Rattle.request.proofs.Readings.{lines-are}
 use Rattle.rows.proofs.ByKind.{rest, rest-is, chosen, test-chosen, kind-is, kth-matchable}
 use Rattle.rows.proofs.Patterns.{read-some}
 use Rattle.spots.specs.Spots.{no-spot, bare-spot, none-shown, first-value, first-shown}
-use Rattle.spots.specs.Steps.{values-spot, item-spot, field-spot, line-spot}
+use Rattle.spots.specs.Inner.Steps.{values-spot, item-spot, field-spot, line-spot}
 use Rattle.spots.specs.declared.Shown.{Shown}
 use Rattle.spots.specs.declared.Spot.{Spot}
 use Rattle.show.specs.Show.{content-spot, in-field, in-line, test-shown, answered}
-use Rattle.show.specs.Steps.{patterns-shown}
+use Rattle.show.specs.Inner.Steps.{patterns-shown}
 use Rattle.show.specs.declared.Answer.{Answer}
 
 pub answered-by : (x : Shown) (n : ℕ) → n ≡ pick (x .found) 1 0

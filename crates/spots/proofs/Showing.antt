@@ -7,22 +7,22 @@ use native.Mathlib.Numerals.{add-one}
 use native.Mathlib.Omega.{arith}
 use lib.ListN.{length, drop, drop-of-length-le}
 use Rattle.octets.specs.Lists.{pick}
-use Rattle.cuts.specs.Parts.{part}
+use Rattle.cuts.specs.Inner.Parts.{part}
 use Rattle.cuts.proofs.Parts.{length-part}
 use Rattle.contents.specs.Body.{Line, session-lines}
 use Rattle.contents.specs.Names.{name-as-matched}
-use Rattle.contents.specs.Places.{body-line, session-from}
+use Rattle.contents.specs.Inner.Places.{body-line, session-from}
 use Rattle.contents.specs.Values.{reduced, values-of}
 use Rattle.contents.specs.declared.BodyLine.{BodyLine}
 use Rattle.contents.specs.declared.BodyLine.the-variants.{Typed, Other, Done}
 use Rattle.contents.proofs.BodyLines.{TypedAt, OtherAt, LineSays, line-says, session-start}
 use Rattle.request.specs.Request.{Field}
-use Rattle.request.specs.Places.{head-of, Placed, request-of, field-parts}
+use Rattle.request.specs.Inner.Places.{head-of, Placed, request-of, field-parts}
 use Rattle.request.specs.declared.FieldParts.{FieldParts}
 use Rattle.request.specs.declared.Places.{Places}
 use Rattle.request.proofs.Readings.{fields-many, field-said, index-low}
 use Rattle.spots.specs.Spots.{none-shown, shown-in, first-shown}
-use Rattle.spots.specs.Steps.{item-spot, field-spot, line-spot, LowSpot, LowShown}
+use Rattle.spots.specs.Inner.Steps.{item-spot, field-spot, line-spot, LowSpot, LowShown}
 use Rattle.spots.specs.declared.Shown.{Shown}
 use Rattle.spots.specs.declared.Spot.{Spot}
 

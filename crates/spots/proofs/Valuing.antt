@@ -8,19 +8,19 @@ use native.Mathlib.Omega.{arith}
 use lib.ListN.{length, take}
 use borrow.Author.Tests.{not-true, not-false}
 use Rattle.octets.specs.Lists.{pick}
-use Rattle.pattern.specs.Answers.{meets-text}
-use Rattle.place.specs.Place.{place-text}
+use Rattle.pattern.specs.Inner.Answers.{meets-text}
+use Rattle.place.specs.Inner.Texts.{place-text}
 use Rattle.place.specs.declared.Place.{Place}
 use Rattle.place.proofs.Meeting.{place-meets, place-within}
-use Rattle.cuts.specs.Parts.{part, over}
+use Rattle.cuts.specs.Inner.Parts.{part, over}
 use Rattle.cuts.proofs.Parts.{length-part}
-use Rattle.contents.specs.Places.{values-from, piece-at}
+use Rattle.contents.specs.Inner.Places.{values-from, piece-at}
 use Rattle.contents.specs.Values.{reduced, never-cut, values-of}
 use Rattle.contents.specs.declared.Piece.{Piece}
 use Rattle.contents.proofs.Laws.{reduced-front}
 use Rattle.contents.proofs.Values.{ValueAt, value-says, values-past, values-cut, values-whole}
 use Rattle.spots.specs.Spots.{no-spot, bare-spot, first-value}
-use Rattle.spots.specs.Steps.{values-spot, item-spot, LowSpot}
+use Rattle.spots.specs.Inner.Steps.{values-spot, item-spot, LowSpot}
 use Rattle.spots.specs.declared.Spot.{Spot}
 
 pub no-spot-low : (x : Spot) → x ≡ no-spot → LowSpot x

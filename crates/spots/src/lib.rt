@@ -8,13 +8,13 @@ ghost use mathlib.Core.Bool.{true, false};
 ghost use mathlib.Core.List.{_∷_, []};
 ghost use Prim.Native.Nat.{_≤_};
 ghost use lib.ListN.{length};
-ghost use Rattle.pattern.specs.Prepared.{Ready};
+ghost use Rattle.pattern.specs.Inner.Prepared.{Ready};
 ghost use Rattle.contents.specs.Body.{session-lines};
-ghost use Rattle.contents.specs.Places.{values-from};
+ghost use Rattle.contents.specs.Inner.Places.{values-from};
 ghost use Rattle.contents.specs.Values.{reduced, values-of};
-ghost use Rattle.request.specs.Places.{request-of, Placed};
+ghost use Rattle.request.specs.Inner.Places.{request-of, Placed};
 ghost use Rattle.spots.specs.Spots.{no-spot, bare-spot, none-shown, shown-in, first-shown};
-ghost use Rattle.spots.specs.Steps.{values-spot, item-spot, field-spot, line-spot, LowSpot, LowShown};
+ghost use Rattle.spots.specs.Inner.Steps.{values-spot, item-spot, field-spot, line-spot, LowSpot, LowShown};
 
 // Whether there is one, the value's number, the place of the part's first byte in that value, and how many bytes the part has.
 pub struct Spot {

@@ -5,15 +5,15 @@ use mathlib.Core.List.{List}
 use Prim.Native.Nat.{ℕ, _+_, _≤_, _<_}
 use native.Mathlib.Omega.{arith}
 use lib.ListN.{length, drop, drop-of-length-le}
-use Rattle.cuts.specs.Parts.{part}
+use Rattle.cuts.specs.Inner.Parts.{part}
 use Rattle.cuts.proofs.Parts.{length-part}
 use Rattle.contents.specs.Names.{name-as-matched}
 use Rattle.contents.specs.Values.{reduced, values-of}
-use Rattle.request.specs.Places.{head-of, field-parts, request-of, Placed}
+use Rattle.request.specs.Inner.Places.{head-of, field-parts, request-of, Placed}
 use Rattle.request.specs.Request.{Field}
 use Rattle.request.specs.declared.FieldParts.{FieldParts}
 use Rattle.request.proofs.Indexing.{FieldSays}
-use Rattle.trials.specs.Trying.{item-row, field-row, all-rows, most-trials}
+use Rattle.trials.specs.Inner.Trying.{item-row, field-row, all-rows, most-trials}
 use Rattle.request.specs.declared.Places.{Places}
 use Rattle.trials.specs.declared.Verdict.{Verdict}
 use Rattle.trials.proofs.Items.{fields-le}

@@ -9,11 +9,11 @@ use lib.ListN.{length}
 use borrow.Author.Tests.{not-true, not-false}
 use Rattle.octets.specs.Lists.{pick, total}
 use Rattle.octets.proofs.Kept.{total-mono, total-const}
-use Rattle.pattern.specs.Answers.{meets-text}
+use Rattle.pattern.specs.Inner.Answers.{meets-text}
 use Rattle.contents.specs.Body.{Line}
 use Rattle.request.specs.Request.{Field}
 use Rattle.request.proofs.Few.{weight}
-use Rattle.trials.specs.Trying.{values-row, named-row, item-row, field-row, line-row}
+use Rattle.trials.specs.Inner.Trying.{values-row, named-row, item-row, field-row, line-row}
 use Rattle.trials.specs.declared.Verdict.{Verdict}
 
 -- ---- one item

@@ -5,14 +5,14 @@ use mathlib.Core.List.{List, [], _∷_}
 use Prim.Native.Nat.{ℕ, _+_, _-_, _≤_, _<_}
 use native.Mathlib.Omega.{arith}
 use lib.ListN.{length}
-use Rattle.cuts.specs.Parts.{part}
+use Rattle.cuts.specs.Inner.Parts.{part}
 use Rattle.contents.specs.Body.{Line, session-lines}
-use Rattle.contents.specs.Places.{body-line, session-from}
+use Rattle.contents.specs.Inner.Places.{body-line, session-from}
 use Rattle.contents.specs.declared.BodyLine.{BodyLine}
 use Rattle.contents.specs.declared.BodyLine.the-variants.{Typed, Other, Done}
 use Rattle.contents.proofs.BodyLines.{TypedAt, OtherAt, LineSays, line-says, session-start}
 use Rattle.contents.proofs.Small.{session-lines-length}
-use Rattle.trials.specs.Trying.{item-row, line-row, all-rows, most-trials}
+use Rattle.trials.specs.Inner.Trying.{item-row, line-row, all-rows, most-trials}
 use Rattle.trials.specs.declared.Verdict.{Verdict}
 use Rattle.trials.proofs.Items.{lines-le}
 use Rattle.trials.proofs.Sweep.{Swept, swept-first, swept-next, swept-end}

@@ -7,14 +7,14 @@ use native.Mathlib.Omega.{arith}
 use lib.ListN.{length, take}
 use Rattle.octets.specs.Lists.{some-of, total}
 use Rattle.octets.proofs.Kept.{total-const}
-use Rattle.pattern.specs.Answers.{meets-text}
-use Rattle.cuts.specs.Parts.{part, over}
-use Rattle.contents.specs.Places.{values-from, piece-at}
+use Rattle.pattern.specs.Inner.Answers.{meets-text}
+use Rattle.cuts.specs.Inner.Parts.{part, over}
+use Rattle.contents.specs.Inner.Places.{values-from, piece-at}
 use Rattle.contents.specs.Values.{reduced, never-cut, values-of}
 use Rattle.contents.specs.declared.Piece.{Piece}
 use Rattle.contents.proofs.Laws.{reduced-front}
 use Rattle.contents.proofs.Values.{ValueAt, value-says, values-past, values-cut, values-whole}
-use Rattle.trials.specs.Trying.{values-row}
+use Rattle.trials.specs.Inner.Trying.{values-row}
 use Rattle.trials.specs.declared.Verdict.{Verdict}
 use Rattle.trials.proofs.Sweep.{Swept, swept-first, swept-next, swept-end}
 

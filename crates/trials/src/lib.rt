@@ -7,12 +7,12 @@ ghost use mathlib.Core.Bool.{true, false};
 ghost use mathlib.Core.List.{_∷_, []};
 ghost use Prim.Native.Nat.{_≤_};
 ghost use lib.ListN.{length};
-ghost use Rattle.pattern.specs.Prepared.{Ready};
+ghost use Rattle.pattern.specs.Inner.Prepared.{Ready};
 ghost use Rattle.contents.specs.Body.{session-lines};
-ghost use Rattle.contents.specs.Places.{values-from};
+ghost use Rattle.contents.specs.Inner.Places.{values-from};
 ghost use Rattle.contents.specs.Values.{reduced, values-of};
-ghost use Rattle.request.specs.Places.{request-of, Placed};
-ghost use Rattle.trials.specs.Trying.{values-row, item-row, field-row, line-row, all-rows, most-trials};
+ghost use Rattle.request.specs.Inner.Places.{request-of, Placed};
+ghost use Rattle.trials.specs.Inner.Trying.{values-row, item-row, field-row, line-row, all-rows, most-trials};
 
 // Whether a row fits, and the trials it took.
 pub struct Verdict {

@@ -2,7 +2,7 @@ use Prim.Native.Nat.{_-_, zero-le}
 use native.Mathlib.Nat.{zero-add}
 use lib.ListN.{length}
 use borrow.Author.Needs.{needs}
-use Rattle.cuts.specs.Searching.{first, text-here}
+use Rattle.cuts.specs.Inner.Searching.{first, text-here}
 use Rattle.cuts.proofs.Search.{Came, came-end}
 use Rattle.cuts.proofs.Trims.{blanks-found, blanks-next}
 use Rattle.cuts.proofs.blanks.Statement.{statement}

@@ -4,7 +4,7 @@ use Prim.Native.Nat.{_+_, _-_}
 use lib.ListN.{length, drop}
 use borrow.Author.Needs.{needs}
 use Rattle.cuts.specs.Cutting.{begins}
-use Rattle.cuts.specs.Searching.{first}
+use Rattle.cuts.specs.Inner.Searching.{first}
 use Rattle.cuts.proofs.Search.{Came, came-end, place-found, place-next}
 use Rattle.cuts.proofs.place_of.Statement.{statement}
 use Rattle.cuts.proofs.place_of.Tie as tie

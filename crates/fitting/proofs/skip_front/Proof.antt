@@ -1,6 +1,6 @@
 use Prim.Native.Nat.{_+_, _-_, _*_, _≤_}
 use borrow.Author.Needs.{needs}
-use Rattle.fitting.specs.Trigger.{Same-rows}
+use Rattle.fitting.specs.Inner.Trigger.{Same-rows}
 use Rattle.fitting.proofs.Spans.{front-first, front-next}
 use Rattle.fitting.proofs.skip_front.Statement.{statement}
 use Rattle.fitting.proofs.skip_front.Tie as tie

@@ -4,10 +4,10 @@ use native.Mathlib.Omega.{arith}
 use Prim.Native.Nat.{_-_}
 use mathlib.Core.Path.{_≡_, _∙_}
 use lib.ListN.{length}
-use Rattle.profile.specs.Decoded.{profile-in}
-use Rattle.request.specs.Places.{request-of}
-use Rattle.rows.specs.Tried.{Spare}
-use Rattle.fitting.specs.Rowwise.{fits-nth, trials-nth}
+use Rattle.profile.specs.Inner.Decoded.{profile-in}
+use Rattle.request.specs.Inner.Places.{request-of}
+use Rattle.rows.specs.Inner.Tried.{Spare}
+use Rattle.fitting.specs.Inner.Rowwise.{fits-nth, trials-nth}
 use borrow.Author.Needs.{needs}
 use Rattle.fitting.proofs.try_rows.Statement.{statement}
 use Rattle.fitting.proofs.try_rows.Tie as tie

@@ -24,7 +24,7 @@ part-result-end : tie.Need-part-result-end
 part-result-end c = search needs
 
 returns : tie.Need-returns
-returns c = let a = c .before .before .before .args in part-is (now (a .image)) (a .l) (a .l .start) (a .l .length) refl refl
+returns c = let a = c .before .before .before .args in part-is (now (a .image)) (a .l) (a .l .start) (a .l .size) refl refl
 
 pub part-spec : {M : Type 1} → statement M
 part-spec =

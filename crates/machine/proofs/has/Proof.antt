@@ -1,5 +1,5 @@
 use borrow.Author.Needs.{needs}
-use Rattle.machine.specs.Machine.{in-set}
+use Rattle.machine.specs.Inner.Machine.{in-set}
 use Rattle.octets.proofs.Bits.{low-bit}
 use Rattle.machine.proofs.has.Statement.{statement}
 use Rattle.machine.proofs.has.Tie as tie

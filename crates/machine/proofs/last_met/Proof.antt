@@ -1,5 +1,5 @@
 use Rattle.machine.proofs.Hunt.{last-first, last-down, last-none}
-use Rattle.machine.specs.Machine.{LastMet}
+use Rattle.machine.specs.Inner.Machine.{LastMet}
 use lib.ListN.{getD}
 use mathlib.Core.List.{[]}
 use borrow.Author.Needs.{needs}

@@ -1,7 +1,7 @@
 use Prim.Native.Nat.{_+_, _-_}
 use lib.ListN.{length, drop}
 use borrow.Author.Needs.{needs}
-use Rattle.cuts.specs.Searching.{span}
+use Rattle.cuts.specs.Inner.Searching.{span}
 use Rattle.contents.specs.Values.{plain, step, cuts}
 use Rattle.contents.proofs.Values.{Spanning, spanning-first, spanning-found, spanning-next, spanning-end}
 use Rattle.contents.proofs.pieces.piece_end.Statement.{statement}

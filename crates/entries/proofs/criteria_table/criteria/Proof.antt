@@ -4,8 +4,8 @@ use native.Mathlib.Omega.{arith}
 use mathlib.Core.Path.{_≡_, ap, _∙_}
 use mathlib.Core.Bool.{false}
 use Prim.Native.Nat.{_-_, _≤_}
-use Rattle.cells.specs.Out.{good, bad}
-use Rattle.cells.specs.Places.{texts}
+use Rattle.cells.specs.Inner.Out.{good, bad}
+use Rattle.cells.specs.Inner.Places.{texts}
 use Rattle.cells.proofs.Laws.{is, u32-inv}
 use Rattle.entries.proofs.CriteriaLoop.{CritHead, earlier, earlier-none, earlier-not, earlier-found, earlier-all, crit-first, crit-end, crit-cut, crit-repeat, crit-bad, crit-more}
 use Rattle.entries.proofs.criteria_table.criteria.Statement.{statement}

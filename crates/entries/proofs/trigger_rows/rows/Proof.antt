@@ -1,4 +1,4 @@
-use Rattle.cells.specs.Places.{texts}
+use Rattle.cells.specs.Inner.Places.{texts}
 use borrow.Author.Needs.{needs}
 use Prim.Native.Nat.{_-_}
 use Rattle.entries.proofs.RowLoop.{RowHead, rows-first, rows-more, rows-bad, rows-end}

@@ -4,8 +4,8 @@ use mathlib.Core.List.{List}
 use mathlib.Core.Path.{_∙_}
 use Prim.Native.Nat.{ℕ, _+_, _-_, _≤_}
 use lib.ListN.{length}
-use Rattle.pattern.specs.Answers.{meets-text}
-use Rattle.pattern.specs.Prepared.{Ready}
+use Rattle.pattern.specs.Inner.Answers.{meets-text}
+use Rattle.pattern.specs.Inner.Prepared.{Ready}
 use Rattle.probes.proofs.Counting.{Counting, counting-first, counting-end, counting-next, line-inside}
 use native.Mathlib.Omega.{arith}
 use Rattle.probes.proofs.blocks.count.Statement.{statement}

@@ -2,7 +2,7 @@ use borrow.Author.Needs.{needs}
 use mathlib.Core.Path.{_≡_, _∙_}
 use Prim.Native.Nat.{_+_, _-_}
 use lib.ListN.{length}
-use Rattle.pattern.specs.Answers.{meets-text}
+use Rattle.pattern.specs.Inner.Answers.{meets-text}
 use Rattle.probes.proofs.Counting.{Counting, counting-first, counting-end, counting-next, line-inside}
 use native.Mathlib.Omega.{arith}
 use Rattle.probes.proofs.blocks.count_patterns.Statement.{statement}

@@ -2,7 +2,7 @@ use borrow.Author.Needs.{needs}
 use mathlib.Core.Path.{refl}
 use Prim.Native.Nat.{_+_, _-_}
 use lib.ListN.{length, drop}
-use Rattle.probes.specs.Lines.{before-lf}
+use Rattle.probes.specs.Inner.Lines.{before-lf}
 use Rattle.probes.proofs.Counting.{Came, came-next, came-found, came-end}
 use Rattle.probes.proofs.blocks.line_end.Statement.{statement}
 use Rattle.probes.proofs.blocks.line_end.Tie as tie

@@ -2,9 +2,9 @@ use mathlib.Core.Path.{refl, sym, _∙_}
 use Prim.Native.Nat.{_+_, _-_}
 use lib.ListN.{length, drop}
 use borrow.Author.Needs.{needs}
-use Rattle.cuts.specs.Searching.{first}
+use Rattle.cuts.specs.Inner.Searching.{first}
 use Rattle.cuts.proofs.Search.{Came, came-end, came-found, came-skip, skip-next}
-use Rattle.request.specs.Steps.{line-break}
+use Rattle.request.specs.Inner.Steps.{line-break}
 use Rattle.request.proofs.Ends.{break-at-cr}
 use Rattle.request.proofs.field_lines.line_end.Statement.{statement}
 use Rattle.request.proofs.field_lines.line_end.Tie as tie

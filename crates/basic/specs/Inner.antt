@@ -1,0 +1,4 @@
+pub mod Drawn
+pub mod Judged
+pub mod Places
+pub mod Sets

@@ -1,0 +1,5 @@
+pub mod Answers
+pub mod Decoded
+pub mod Kept
+pub mod Places
+pub mod Writable
