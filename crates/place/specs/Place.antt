@@ -1,4 +1,4 @@
--- Where a pattern matches a text: "the smallest start and, of those, the longest length" (document 02, change request 2).
+-- Where a pattern matches a text: "the smallest start, and of those the longest length" (document 02, change request 2).
 use mathlib.Core.Bool.{Bool, true, false}
 use mathlib.Core.Option.{Option, none, some}
 use mathlib.Core.List.{List, [], _∷_}

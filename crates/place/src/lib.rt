@@ -1,4 +1,4 @@
-// Where a pattern matches a text: "the smallest start and, of those, the longest length" (document 02, change request 2).
+// Where a pattern matches a text: "the smallest start, and of those the longest length" (document 02, change request 2).
 ghost use mathlib.Core.Path.{_≡_};
 ghost use mathlib.Core.Bool.{Bool};
 ghost use mathlib.Core.List.{List};

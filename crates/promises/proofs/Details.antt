@@ -171,7 +171,7 @@ pub shown-iff-matched : (q : Request) (g : Given) (h : Pattern) (c : Option Patt
     → (test-shown q (header h c) .found ≡ test-fits q g (header h c)) × (test-shown q (description h c) .found ≡ test-fits q g (description h c))
 shown-iff-matched = saying.shown-iff-matched
 
--- "a theorem says that the part at that place of that value fits": none that fits begins earlier, and none from there is longer
+-- the part at that place of that value fits: none that fits begins earlier, and none from there is longer
 pub shown-field-fits : (q : Request) (h c : Pattern) → test-shown q (header h (some c)) .found ≡ true
     → PartIn (λ (f : Field). name-matches h (f .name)) (λ f. f .values) c (q .fields) (test-shown q (header h (some c)))
 shown-field-fits = saying.header-part

@@ -108,7 +108,7 @@ all-fields (l ∷ ls) = do
 
 -- ---- the request
 
--- the start line, and the lines after it: "none [that continues] may follow the start line directly"
+-- the start line, and the lines after it: of those that continue a field "none may follow the start line directly"
 abbrev pub read-head : List (List ℕ) → List ℕ → Option Request
 read-head [] body = none
 read-head (l ∷ ls) body = do

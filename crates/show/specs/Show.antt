@@ -34,7 +34,8 @@ in-field h c f = pick (name-matches h (f .name)) (content-spot c (f .values)) no
 abbrev pub in-line : Pattern → Option Pattern → Line → Spot
 in-line h c l = pick (written-matches h (l .type)) (content-spot c (l .value ∷ [])) no-spot
 
--- "For a SIPHeader or SessionDescription row the first field (or line that is a field) and value that matched"; "another kind: none"
+-- "For a SIPHeader or SessionDescription row they can ask the first field (or line that is a field) and value that matched before negation,
+-- each counted from 0, with this place"; "another kind": "none"
 unfoldable pub test-shown : Request → Test → Shown
 unfolding request-lines name-matches written-matches place-of first-value first-shown
 test-shown q (request-uri u) = none-shown
@@ -76,7 +77,7 @@ pub record Shows (image request : List ℕ) (k : ℕ) (a : Answer) : Type 0 wher
 
 -- ---- what a caller learns
 
--- "Field, value, start and length bring the caller to the very bytes that were matched": in a list of items, with a Content pattern c
+-- field, value, start and length bring the caller to the bytes that were matched: in a list of items, with a Content pattern c
 pub record PartIn {A : Type 0} (named : A → Bool) (values : A → List (List ℕ)) (c : Pattern) (l : List A) (x : Shown) : Type 0 where
   pub item : A
   pub there : getElem? l (x .field) ≡ some item

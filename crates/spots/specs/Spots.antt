@@ -14,7 +14,7 @@ no-spot = record { found = false; value = 0; start = 0; size = 0 }
 abbrev pub none-shown : Shown
 none-shown = record { found = false; field = 0; value = 0; start = 0; size = 0 }
 
--- "without Content value 0, start 0, length 0"
+-- "without Content it is value 0, start 0, length 0"
 abbrev pub bare-spot : Spot
 bare-spot = record { found = true; value = 0; start = 0; size = 0 }
 
