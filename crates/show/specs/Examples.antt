@@ -4,8 +4,8 @@ use mathlib.Core.Option.{Option, none, some}
 use mathlib.Core.List.{List, [], _∷_}
 use Prim.Native.Nat.{ℕ}
 use Prim.Native.String.{String}
-use lib.Dec.{T, eqb}
-use Rattle.octets.specs.Lists.{text, every, agree}
+use lib.Dec.{T}
+use Rattle.octets.specs.Lists.{text, every, agree, same}
 use Rattle.basic.specs.Pattern.{Pattern}
 use Rattle.basic.specs.Reading.{read-pattern}
 use Rattle.profile.specs.Image.{Test, header, description}
@@ -31,18 +31,12 @@ test b none c = none
 test b (some h) [] = some (kind b h none)
 test b (some h) (c ∷ cs) = some (kind b h (read-pattern (text c)))
 
-abbrev equal : List ℕ → List ℕ → Bool
-equal [] [] = true
-equal [] (b ∷ l) = false
-equal (a ∷ k) [] = false
-equal (a ∷ k) (b ∷ l) = eqb a b && equal k l
-
 abbrev on : Option Test → Option Request → Example → Bool
 on none q e = false
 on (some t) none e = false
 on (some t) (some q) e =
     let x : Shown = test-shown q t in
-    agree (e .found) (x .found) && equal (x .field ∷ x .value ∷ x .start ∷ x .size ∷ []) (e .numbers)
+    agree (e .found) (x .found) && same (x .field ∷ x .value ∷ x .start ∷ x .size ∷ []) (e .numbers)
 
 unfoldable pub right : Example → Bool
 unfolding read-pattern read-request test-shown
