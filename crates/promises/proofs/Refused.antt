@@ -29,7 +29,7 @@ use Rattle.listing.specs.Listing.{Listing, listed, refuse-list, filled, fill, f
 use Rattle.route.specs.declared.Advanced.{Advanced}
 use Rattle.show.specs.Show.{show-row, show-read, show-judged, show}
 use Rattle.show.specs.declared.Answer.{Answer}
-use Rattle.promises.specs.Refusals.{Line, at-0, First, FirstNumber, numbered, none-holds, this-one, a-later-one, image-line, unreadable, is-register, too-many, missing, no-such, check-lines, open-lines, advance-lines, report-lines, listing-lines, lookup-lines, missing-row, no-row, show-lines}
+use Rattle.promises.specs.Refusals.{Line, at-0, First, FirstNumber, numbered, none-holds, this-one, a-later-one, image-line, unreadable, is-register, too-many, missing, no-such, check-lines, open-lines, advance-lines, report-lines, listing-lines, lookup-lines, no-row, show-lines}
 
 -- ---- the first line that holds
 
@@ -238,11 +238,11 @@ shown-first : (j : Judged) (r : List ℕ) (k : ℕ) (o : Option Request) → rea
 shown-first (refused n place) r k o e = refl
 shown-first (accepted p) r k o e = ap (λ (q : Option Request). of-shown (show-read p q k)) e ∙ by o
   where
-    go : (q : Request) (x : Option Row) → of-shown (show-row q x) ≡ first-of (at-0 (missing-row x) 13 ∷ [])
+    go : (q : Request) (x : Option Row) → of-shown (show-row q x) ≡ first-of (at-0 (missing x) 13 ∷ [])
     go q none = refl
     go q (some x) = refl
 
-    by : (o : Option Request) → of-shown (show-read p o k) ≡ first-of (at-0 (unreadable o) 7 ∷ at-0 (missing-row (getElem? (p .rows) k)) 13 ∷ [])
+    by : (o : Option Request) → of-shown (show-read p o k) ≡ first-of (at-0 (unreadable o) 7 ∷ at-0 (missing (getElem? (p .rows) k)) 13 ∷ [])
     by none = refl
     by (some q) = go q (getElem? (p .rows) k)
 

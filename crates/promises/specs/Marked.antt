@@ -14,6 +14,7 @@ use Rattle.entries.specs.declared.Row.{Row}
 use Rattle.entries.specs.declared.Criterion.{Criterion}
 use Rattle.session.specs.Session.{fresh}
 use Rattle.route.specs.Advance.{advance}
+use Rattle.promises.specs.Refusals.{missing}
 
 -- ---- the images of source document 000's trigger
 
@@ -60,10 +61,6 @@ pub data Example : Type 0 where
 abbrev on-text : Option Pattern → List ℕ → Bool → Bool
 on-text none s expected = false
 on-text (some p) s expected = agree expected (written-matches p s)
-
-abbrev missing : Option Pattern → Bool
-missing none = true
-missing (some p) = false
 
 -- outcome 1 is forward, 2 is route: neither is a refusal
 abbrev outcome-is : Bool → ℕ → Bool

@@ -7,7 +7,7 @@ use mathlib.Core.List.{List, [], _∷_}
 use lib.ListN.{length, getElem?}
 use lib.Dec.{T, leb, eqb}
 use Rattle.octets.specs.Lists.{same}
-use Rattle.profile.specs.Image.{Row, Criterion, Judged, accepted, refused}
+use Rattle.profile.specs.Image.{Judged, accepted, refused}
 use Rattle.profile.specs.Judging.{judge}
 use Rattle.lookups.specs.declared.Lookup.{Lookup}
 use Rattle.request.specs.Request.{Request, read-request}
@@ -63,24 +63,19 @@ too-many g (refused n place) o places = false
 too-many g (accepted p) none places = false
 too-many g (accepted p) (some q) places = not (leb (length (listed (criterion-fits q g p) (p .criteria))) (length places))
 
--- 13 "no such criterion"
-abbrev pub missing : Option Criterion → Bool
+-- 13 "no such criterion"; of a show, no such row
+abbrev pub missing : {A : Type 0} → Option A → Bool
 missing none = true
-missing (some c) = false
+missing (some a) = false
 
 -- of an image that is accepted
 abbrev pub no-such : Judged → ℕ → Bool
 no-such (refused n place) i = false
 no-such (accepted p) i = missing (getElem? (p .criteria) i)
 
--- 13 of a show: no such row
-abbrev pub missing-row : Option Row → Bool
-missing-row none = true
-missing-row (some r) = false
-
 abbrev pub no-row : Judged → ℕ → Bool
 no-row (refused n place) k = false
-no-row (accepted p) k = missing-row (getElem? (p .rows) k)
+no-row (accepted p) k = missing (getElem? (p .rows) k)
 
 -- ---- the orders: "10, image faults, 7, 11, 8, 9, 12; for a lookup 13 after the image"
 
