@@ -120,42 +120,49 @@ module _ (s starts colons : List ℕ) (p : Places) (k : Placed s starts colons p
       ev ∙ ap one-trial (eb ∙ ap₂ (λ (x y : List ℕ). same x y && registration-fits x (r .set) (g .registration)) et (method-is s starts colons p k))
       ∙ sym (ap (test-row (request-of s) g) (kind-is strs r 1 e))
 
-module _ (strs : List Stored) (r : Row) (matchable : Matchable strs r) (not-case : r .kind ≡ 3 → ⊥) (not-uri : r .kind ≡ 0 → ⊥) (not-method : r .kind ≡ 1 → ⊥)
-    (q : Request) (g : Given) where
-  abbrev h : List ℕ
-  h = string-of strs (r .first) .bytes
+-- the bytes of a row's patterns, and whether Content is absent
+abbrev pub first-text : List Stored → Row → List ℕ
+first-text strs r = string-of strs (r .first) .bytes
 
-  abbrev c : List ℕ
-  c = string-of strs (r .second) .bytes
+abbrev pub content-text : List Stored → Row → List ℕ
+content-text strs r = string-of strs (r .second) .bytes
 
-  abbrev absent : Bool
-  absent = eqb (r .second) 65535
+abbrev pub absent : Row → Bool
+absent r = eqb (r .second) 65535
 
+module _ (strs : List Stored) (r : Row) (matchable : Matchable strs r) (not-case : r .kind ≡ 3 → ⊥) (not-uri : r .kind ≡ 0 → ⊥) (not-method : r .kind ≡ 1 → ⊥) where
   by-pattern : ByPattern r
   by-pattern = record { not-uri = not-uri; not-method = not-method; not-case = not-case }
 
-  h-read : read-pattern h ≡ some (or-empty (read-pattern h))
-  h-read = read-some h (matchable .first by-pattern)
+  pub first-read : read-pattern (first-text strs r) ≡ some (or-empty (read-pattern (first-text strs r)))
+  first-read = read-some (first-text strs r) (matchable .first by-pattern)
 
-  c-read : absent ≡ false → read-pattern c ≡ some (or-empty (read-pattern c))
-  c-read e = read-some c (matchable .second by-pattern (eqb-false (r .second) 65535 e))
+  pub content-read : absent r ≡ false → read-pattern (content-text strs r) ≡ some (or-empty (read-pattern (content-text strs r)))
+  content-read e = read-some (content-text strs r) (matchable .second by-pattern (eqb-false (r .second) 65535 e))
 
-  test-is : (b : Bool) → eqb (r .kind) 2 ≡ b → test-from strs r ≡ chosen false false b false strs r
+  pub test-is : (b : Bool) → eqb (r .kind) 2 ≡ b → test-from strs r ≡ chosen false false b false strs r
   test-is b e = test-chosen strs r false false b false (ne-eqb (r .kind) 0 not-uri) (ne-eqb (r .kind) 1 not-method) e (ne-eqb (r .kind) 3 not-case)
 
-  kinds : (b : Bool) → eqb (r .kind) 2 ≡ b → patterns-row q (not b) h (not absent) c ≡ test-row q g (test-from strs r)
-  unfolding patterns-row test-row test-fits test-trials pattern-of
-  kinds true e =
-      fields-as h c (or-empty (read-pattern h)) (or-empty (read-pattern c)) h-read absent c-read (q .fields)
-      ∙ sym (ap (test-row q g) (test-is true e))
-  kinds false e =
-      lines-as h c (or-empty (read-pattern h)) (or-empty (read-pattern c)) h-read absent c-read (request-lines q)
-      ∙ sym (ap (test-row q g) (test-is false e))
+  module _ (q : Request) (g : Given) where
+    abbrev h : List ℕ
+    h = first-text strs r
 
-  pub pattern-row : (t u : List ℕ) → t ≡ h → u ≡ c → (v : Verdict) → v ≡ patterns-row q (not (eqb (r .kind) 2)) t (not (eqb (r .second) 65535)) u
-      → v ≡ test-row q g (test-from strs r)
-  pattern-row t u et eu v ev =
-      ev ∙ ap₂ (λ (x y : List ℕ). patterns-row q (not (eqb (r .kind) 2)) x (not absent) y) et eu ∙ kinds (eqb (r .kind) 2) refl
+    abbrev c : List ℕ
+    c = content-text strs r
+
+    kinds : (b : Bool) → eqb (r .kind) 2 ≡ b → patterns-row q (not b) h (not (absent r)) c ≡ test-row q g (test-from strs r)
+    unfolding patterns-row test-row test-fits test-trials pattern-of
+    kinds true e =
+        fields-as h c (or-empty (read-pattern h)) (or-empty (read-pattern c)) first-read (absent r) content-read (q .fields)
+        ∙ sym (ap (test-row q g) (test-is true e))
+    kinds false e =
+        lines-as h c (or-empty (read-pattern h)) (or-empty (read-pattern c)) first-read (absent r) content-read (request-lines q)
+        ∙ sym (ap (test-row q g) (test-is false e))
+
+    pub pattern-row : (t u : List ℕ) → t ≡ h → u ≡ c → (v : Verdict) → v ≡ patterns-row q (not (eqb (r .kind) 2)) t (not (eqb (r .second) 65535)) u
+        → v ≡ test-row q g (test-from strs r)
+    pattern-row t u et eu v ev =
+        ev ∙ ap₂ (λ (x y : List ℕ). patterns-row q (not (eqb (r .kind) 2)) x (not (absent r)) y) et eu ∙ kinds (eqb (r .kind) 2) refl
 
 -- ---- row k of an image that stands, by the numbers that were read
 

@@ -9,7 +9,6 @@ use Rattle.entries.specs.declared.Row.{Row}
 use Rattle.profile.specs.Inner.Decoded.{stored-in, test-from, row-from, profile-in}
 use Rattle.profile.specs.Image.{Stored, Judged}
 use Rattle.profile.specs.Image as image
-use Rattle.profile.specs.Judging.{judge}
 use Rattle.profile.specs.Inner.Kept.{Judges, Standing, nth-row}
 use Rattle.profile.specs.declared.Judgement.{Judgement}
 use Rattle.profile.specs.declared.Layout.{Layout}

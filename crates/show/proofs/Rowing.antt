@@ -1,36 +1,30 @@
 -- What is shown for a row, by the bytes of its patterns and by its kind.
 use mathlib.Core.Bool.{Bool, true, false, not}
 use mathlib.Core.Option.{Option, none, some}
-use mathlib.Core.Path.{_≡_, refl, sym, ap, ap₂, _∙_, subst}
+use mathlib.Core.Path.{_≡_, refl, sym, ap, ap₂, _∙_}
 use mathlib.Core.List.{List, _∷_, []}
-use Prim.Native.Nat.{ℕ, _+_, _*_, _<_}
+use Prim.Native.Nat.{ℕ}
 use lib.Dec.{eqb}
-use lib.ListN.{length, drop}
-use borrow.Author.Tests.{eqb-false, ne-eqb}
 use Rattle.octets.specs.Lists.{pick}
 use Rattle.basic.specs.Pattern.{Pattern}
 use Rattle.basic.specs.Reading.{read-pattern}
 use Rattle.pattern.specs.Inner.Answers.{read-matches, meets-text}
 use Rattle.place.specs.Inner.Texts.{place-read, place-text}
 use Rattle.contents.specs.Body.{Line, session-lines}
-use Rattle.entries.specs.Inner.Places.{row-numbers}
 use Rattle.entries.specs.declared.Row.{Row}
-use Rattle.profile.specs.Inner.Decoded.{stored-in, string-of, or-empty, pattern-of, test-from, row-from}
+use Rattle.profile.specs.Inner.Decoded.{or-empty, pattern-of, test-from}
 use Rattle.profile.specs.Image.{Stored}
-use Rattle.profile.specs.Inner.Kept.{Standing, nth-row, ByPattern, Matchable}
-use Rattle.profile.specs.declared.Layout.{Layout}
-use Rattle.profile.proofs.Standings.{strings-in}
+use Rattle.profile.specs.Inner.Kept.{Matchable}
 use Rattle.request.specs.Request.{Request, Field, request-lines}
 use Rattle.request.specs.Inner.Places.{request-of, Placed}
 use Rattle.request.specs.declared.Places.{Places}
 use Rattle.request.proofs.Readings.{lines-are}
-use Rattle.rows.proofs.ByKind.{rest, rest-is, chosen, test-chosen, kind-is, kth-matchable}
-use Rattle.rows.proofs.Patterns.{read-some}
+use Rattle.rows.proofs.ByKind.{rest, rest-is, chosen, kind-is, first-text, content-text, absent, first-read, content-read, test-is}
 use Rattle.spots.specs.Spots.{no-spot, bare-spot, none-shown, first-value, first-shown}
 use Rattle.spots.specs.Inner.Steps.{values-spot, item-spot, field-spot, line-spot}
 use Rattle.spots.specs.declared.Shown.{Shown}
 use Rattle.spots.specs.declared.Spot.{Spot}
-use Rattle.show.specs.Show.{content-spot, in-field, in-line, test-shown, answered}
+use Rattle.show.specs.Show.{in-field, in-line, test-shown, answered}
 use Rattle.show.specs.Inner.Steps.{patterns-shown}
 use Rattle.show.specs.declared.Answer.{Answer}
 
@@ -87,37 +81,29 @@ module _ (strs : List Stored) (r : Row) (q : Request) (v : Shown) (ev : v ≡ no
   unfolding test-shown
   case-shown e = ev ∙ sym (ap (test-shown q) (kind-is strs r 3 e))
 
-module _ (strs : List Stored) (r : Row) (matchable : Matchable strs r) (not-uri : r .kind ≡ 0 → ⊥) (not-method : r .kind ≡ 1 → ⊥) (not-case : r .kind ≡ 3 → ⊥)
+module _ (strs : List Stored) (r : Row) (matchable : Matchable strs r) (not-case : r .kind ≡ 3 → ⊥) (not-uri : r .kind ≡ 0 → ⊥) (not-method : r .kind ≡ 1 → ⊥)
     (q : Request) where
   abbrev h : List ℕ
-  h = string-of strs (r .first) .bytes
+  h = first-text strs r
 
   abbrev c : List ℕ
-  c = string-of strs (r .second) .bytes
-
-  abbrev absent : Bool
-  absent = eqb (r .second) 65535
-
-  by-pattern : ByPattern r
-  by-pattern = record { not-uri = not-uri; not-method = not-method; not-case = not-case }
+  c = content-text strs r
 
   h-read : read-pattern h ≡ some (or-empty (read-pattern h))
-  h-read = read-some h (matchable .first by-pattern)
+  h-read = first-read strs r matchable not-case not-uri not-method
 
-  c-read : absent ≡ false → read-pattern c ≡ some (or-empty (read-pattern c))
-  c-read e = read-some c (matchable .second by-pattern (eqb-false (r .second) 65535 e))
+  c-read : absent r ≡ false → read-pattern c ≡ some (or-empty (read-pattern c))
+  c-read = content-read strs r matchable not-case not-uri not-method
 
-  test-is : (b : Bool) → eqb (r .kind) 2 ≡ b → test-from strs r ≡ chosen false false b false strs r
-  test-is b e = test-chosen strs r false false b false (ne-eqb (r .kind) 0 not-uri) (ne-eqb (r .kind) 1 not-method) e (ne-eqb (r .kind) 3 not-case)
+  of-kind : (b : Bool) → eqb (r .kind) 2 ≡ b → test-shown q (test-from strs r) ≡ test-shown q (chosen false false b false strs r)
+  of-kind b e = ap (test-shown q) (test-is strs r matchable not-case not-uri not-method b e)
 
-  kinds : (b : Bool) → eqb (r .kind) 2 ≡ b → patterns-shown q (not b) h (not absent) c ≡ test-shown q (test-from strs r)
+  kinds : (b : Bool) → eqb (r .kind) 2 ≡ b → patterns-shown q (not b) h (not (absent r)) c ≡ test-shown q (test-from strs r)
   unfolding patterns-shown test-shown pattern-of
-  kinds true e =
-      fields-as h c (or-empty (read-pattern h)) (or-empty (read-pattern c)) h-read absent c-read (q .fields) ∙ sym (ap (test-shown q) (test-is true e))
-  kinds false e =
-      lines-as h c (or-empty (read-pattern h)) (or-empty (read-pattern c)) h-read absent c-read (request-lines q) ∙ sym (ap (test-shown q) (test-is false e))
+  kinds true e = fields-as h c (or-empty (read-pattern h)) (or-empty (read-pattern c)) h-read (absent r) c-read (q .fields) ∙ sym (of-kind true e)
+  kinds false e = lines-as h c (or-empty (read-pattern h)) (or-empty (read-pattern c)) h-read (absent r) c-read (request-lines q) ∙ sym (of-kind false e)
 
   pub pattern-shown : (t u : List ℕ) → t ≡ h → u ≡ c → (v : Shown) → v ≡ patterns-shown q (not (eqb (r .kind) 2)) t (not (eqb (r .second) 65535)) u
       → v ≡ test-shown q (test-from strs r)
   pattern-shown t u et eu v ev =
-      ev ∙ ap₂ (λ (x y : List ℕ). patterns-shown q (not (eqb (r .kind) 2)) x (not absent) y) et eu ∙ kinds (eqb (r .kind) 2) refl
+      ev ∙ ap₂ (λ (x y : List ℕ). patterns-shown q (not (eqb (r .kind) 2)) x (not (absent r)) y) et eu ∙ kinds (eqb (r .kind) 2) refl

@@ -42,7 +42,7 @@ returns-4 c =
     let at-if3 = c .before .before .before .before .before .before in
     let at-string-bytes = c .before .before .before .before .before in
     let at-string-bytes2 = c .before .before .before .before in
-    (pattern-shown _ _ (entry .pre .0 .1) (at-if1 .if1 .left) (at-if2 .if2 .left) (at-if3 .if3 .left) _ _ _ (at-string-bytes .string-bytes .ensures) (at-string-bytes2 .string-bytes2 .ensures) _ (c .before .before .show-patterns .ensures .0), c .before .before .show-patterns .ensures .1)
+    (pattern-shown _ _ (entry .pre .0 .1) (at-if3 .if3 .left) (at-if1 .if1 .left) (at-if2 .if2 .left) _ _ _ (at-string-bytes .string-bytes .ensures) (at-string-bytes2 .string-bytes2 .ensures) _ (c .before .before .show-patterns .ensures .0), c .before .before .show-patterns .ensures .1)
 
 pub show-test-spec : {M : Type 1} → statement M
 show-test-spec =
