@@ -1,10 +1,10 @@
 -- What is shown says of the request: whether the row matches, and where the part that fits stands.
 use mathlib.Core.Bool.{Bool, true, false, _&&_, _||_}
 use mathlib.Core.Option.{Option, none, some}
-use mathlib.Core.Path.{_≡_, refl, sym, ap, ap₂, _∙_, subst, subst⁻¹}
+use mathlib.Core.Path.{_≡_, refl, sym, ap, ap₂, _∙_}
 use mathlib.Core.List.{List, [], _∷_}
-use Prim.Native.Nat.{ℕ, zero, suc, _+_}
-use native.Mathlib.Nat.{zero-add, add-zero, add-suc}
+use Prim.Native.Nat.{ℕ, suc, _+_}
+use native.Mathlib.Nat.{zero-add, add-zero}
 use native.Mathlib.Omega.{arith}
 use lib.Dec.{T}
 use lib.ListN.{getElem?}
@@ -17,7 +17,7 @@ use Rattle.place.specs.declared.Place.{Place}
 use Rattle.place.proofs.Meeting.{place-matches-as}
 use Rattle.place.proofs.Placing.{place-sound}
 use Rattle.contents.specs.Body.{Line}
-use Rattle.profile.specs.Image.{Test, header, description}
+use Rattle.profile.specs.Image.{header, description}
 use Rattle.request.specs.Request.{Request, Field, request-lines}
 use Rattle.rows.specs.Rows.{content-fits, field-fits, line-fits, test-fits}
 use Rattle.rows.specs.declared.Given.{Given}
@@ -28,25 +28,24 @@ use Rattle.show.specs.Show.{content-spot, in-field, in-line, test-shown,
 
 -- ---- whether
 
-pick-found : (b : Bool) (x y : Spot) → x .found ≡ true → pick b x y .found ≡ (b || y .found)
-pick-found true x y e = e
-pick-found false x y e = refl
+either-found : {A : Type 0} (found : A → Bool) (b : Bool) (x y : A) → found x ≡ true → found (pick b x y) ≡ (b || found y)
+either-found found true x y e = e
+either-found found false x y e = refl
 
 first-value-found : (at : List ℕ → Place) (k : ℕ) (vs : List (List ℕ)) → first-value at k vs .found ≡ some-of (λ v. at v .found) vs
 unfolding first-value
 first-value-found at k [] = refl
 first-value-found at k (v ∷ vs) =
-    pick-found (at v .found) (record { found = true; value = k; start = at v .start; size = at v .size }) (first-value at (suc k) vs) refl
+    either-found (λ (x : Spot). x .found) (at v .found) (record { found = true; value = k; start = at v .start; size = at v .size })
+    (first-value at (suc k) vs) refl
     ∙ ap (λ (b : Bool). at v .found || b) (first-value-found at (suc k) vs)
-
-shown-found : (b : Bool) (x y : Shown) → x .found ≡ true → pick b x y .found ≡ (b || y .found)
-shown-found true x y e = e
-shown-found false x y e = refl
 
 first-found : {A : Type 0} (f : A → Spot) (i : ℕ) (l : List A) → first-shown f i l .found ≡ some-of (λ a. f a .found) l
 unfolding first-shown
 first-found f i [] = refl
-first-found f i (a ∷ l) = shown-found (f a .found) (shown-in i (f a)) (first-shown f (suc i) l) refl ∙ ap (λ (b : Bool). f a .found || b) (first-found f (suc i) l)
+first-found f i (a ∷ l) =
+    either-found (λ (x : Shown). x .found) (f a .found) (shown-in i (f a)) (first-shown f (suc i) l) refl
+    ∙ ap (λ (b : Bool). f a .found || b) (first-found f (suc i) l)
 
 some-ext : {A : Type 0} (f g : A → Bool) → ((a : A) → f a ≡ g a) → (l : List A) → some-of f l ≡ some-of g l
 some-ext f g e [] = refl
