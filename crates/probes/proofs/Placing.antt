@@ -8,7 +8,6 @@ use lib.ListN.{length, drop, drop-of-length-le}
 use Rattle.octets.specs.Lists.{total}
 use Rattle.octets.proofs.Kept.{total-mono}
 use Rattle.cuts.specs.Inner.Parts.{part}
-use Rattle.cuts.proofs.Parts.{length-part}
 use Rattle.contents.specs.Names.{name-as-matched}
 use Rattle.contents.specs.Values.{reduced, values-of}
 use Rattle.request.specs.Inner.Places.{head-of, field-parts, Placed, request-of}
@@ -53,24 +52,6 @@ module _ (s starts colons : List ℕ) (p : Places) (k : Placed s starts colons p
     module _ (f : FieldParts) (ef : f ≡ field-parts (head-of s) i) where
       said : FieldSays s q (p .head) i f
       said = field-said s starts colons p k i more f ef
-
-      pub name-order : f .name ≤ f .stop
-      name-order = omega (arith, said .name-order)
-
-      pub value-order : f .value ≤ f .end
-      value-order = said .value-order
-
-      pub value-inside : f .end ≤ length s
-      value-inside = omega (arith, said .inside, head-inside s starts colons p k)
-
-      pub name-inside : f .stop ≤ length s
-      name-inside = omega (arith, said .colon-after, said .value-order, value-inside)
-
-      pub value-fits : (room : List ℕ) → length s ≤ length room → length (part s (f .value) (f .end)) ≤ length room
-      value-fits room h = omega (arith, length-part s (f .value) (f .end) value-order value-inside, value-inside)
-
-      pub value-short : length (part s (f .value) (f .end)) ≤ 65535
-      value-short = omega (arith, length-part s (f .value) (f .end) value-order value-inside, value-inside, short s starts colons p k)
 
       module _ (name : List ℕ) (en : name ≡ name-as-matched (part s (f .name) (f .stop))) (n : ℕ) (w : Fielding s i n) (r : ℕ)
           (er : r ≡ length (values-of name (reduced (part s (f .value) (f .end))))) where

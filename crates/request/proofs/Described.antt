@@ -1,6 +1,6 @@
 -- Whether the fields of a request say that its body is a session description: the search for its Content-Type field.
 use mathlib.Core.Bool.{Bool, true, false, not}
-use mathlib.Core.Path.{_≡_, refl, sym, ap, _∙_, subst}
+use mathlib.Core.Path.{_≡_, refl, sym, ap, _∙_}
 use mathlib.Core.List.{List, [], _∷_}
 use Prim.Native.Nat.{ℕ, _+_, _-_, _≤_, _<_}
 use native.Mathlib.Omega.{arith}
@@ -8,7 +8,6 @@ use lib.ListN.{length, take, drop, drop-of-length-le}
 use borrow.Author.Tests.{not-true, not-false}
 use Rattle.octets.specs.Lists.{pick, only}
 use Rattle.cuts.specs.Inner.Parts.{part, over}
-use Rattle.cuts.proofs.Parts.{length-part}
 use Rattle.contents.specs.Body.{session-lines}
 use Rattle.contents.specs.Description.{content-type, one-description}
 use Rattle.contents.specs.Names.{name-as-matched}
@@ -17,9 +16,10 @@ use Rattle.contents.specs.Values.{reduced, values-of}
 use Rattle.contents.proofs.Describing.{type-values}
 use Rattle.contents.proofs.Laws.{reduced-front}
 use Rattle.request.specs.Inner.Places.{head-of, Fielded, request-of, field-parts, lines-start}
-use Rattle.request.specs.Request.{Field, Request, described-by, is-description, request-lines}
+use Rattle.request.specs.Request.{Field, described-by, is-description, request-lines}
 use Rattle.request.specs.declared.FieldParts.{FieldParts}
-use Rattle.request.proofs.Indexing.{FieldSays, field-says, short, few, head-inside, body-is, body-length}
+use Rattle.request.proofs.Indexing.{short, few, head-inside, body-is, body-length}
+use Rattle.request.proofs.OneField.{said}
 
 -- ---- the value of such a field, reduced into the room
 
@@ -65,40 +65,14 @@ module _ (s starts colons : List ℕ) (head fields : ℕ) (x : Fielded s starts 
   next-room less = omega (arith, few s starts colons head fields x i less)
 
   module _ (less : i < fields) (f : FieldParts) (f-is : f ≡ field-parts (head-of s) i) where
-    said : FieldSays s (request-of s) head i f
-    said =
-        subst (λ (r : FieldParts). FieldSays s (request-of s) head i r) (sym f-is)
-        (field-says s starts colons head fields x i less (request-of s) (x .read))
-
-    head-le : head ≤ length s
-    head-le = omega (arith, head-inside s starts colons head fields x)
-
-    pub name-order : f .name ≤ f .stop
-    name-order = omega (arith, said .name-order)
-
-    pub name-end : f .stop ≤ length s
-    name-end = omega (arith, said .colon-after, said .value-order, said .inside, head-le)
-
-    pub value-order : f .value ≤ f .end
-    value-order = said .value-order
-
-    pub value-end : f .end ≤ length s
-    value-end = omega (arith, said .inside, head-le)
-
-    value-long : length (part s (f .value) (f .end)) ≡ f .end - f .value
-    value-long = length-part s (f .value) (f .end) value-order value-end
-
-    pub value-short : length (part s (f .value) (f .end)) ≤ 65535
-    value-short = omega (arith, value-long, value-end, short s starts colons head fields x)
-
-    pub value-room : (m : ℕ) → length s ≤ m → length (part s (f .value) (f .end)) ≤ m
-    value-room m h = omega (arith, value-long, value-end)
-
     abbrev name : List ℕ
     name = name-as-matched (part s (f .name) (f .stop))
 
     abbrev this : Field
     this = record { name = name; values = values-of name (reduced (part s (f .value) (f .end))) }
+
+    list-is : drop i (request-of s .fields) ≡ (this ∷ drop (i + 1) (request-of s .fields))
+    list-is = said s starts colons head fields x i less f f-is .list
 
     module _ (w : List ℕ) (w-is : w ≡ name) (t : Bool) (t-of : t ≡ content-type w) where
       t-is : t ≡ content-type name
@@ -109,7 +83,7 @@ module _ (s starts colons : List ℕ) (head fields : ℕ) (x : Fielded s starts 
         inside = omega (arith, less);
         answer =
             sym (skipped seen says this (drop (i + 1) (request-of s .fields)) (sym t-is ∙ not-true t n))
-            ∙ sym (ap (λ (l : List Field). going seen says (only typed l)) (said .list)) ∙ k .answer;
+            ∙ sym (ap (λ (l : List Field). going seen says (only typed l)) list-is) ∙ k .answer;
         unseen = k .unseen;
       }
 
@@ -117,7 +91,7 @@ module _ (s starts colons : List ℕ) (head fields : ℕ) (x : Fielded s starts 
         seen-here : going seen says (this ∷ only typed (drop (i + 1) (request-of s .fields))) ≡ is-description (request-of s)
         seen-here =
             sym (found seen says this (drop (i + 1) (request-of s .fields)) (sym t-is ∙ not-false t n))
-            ∙ sym (ap (λ (l : List Field). going seen says (only typed l)) (said .list)) ∙ k .answer
+            ∙ sym (ap (λ (l : List Field). going seen says (only typed l)) list-is) ∙ k .answer
 
         pub second-one : seen ≡ true → false ≡ is-description (request-of s)
         second-one e =

@@ -10,6 +10,7 @@ pub mod Indexing
 pub mod Judging
 pub mod Lines
 pub mod Nth
+pub mod OneField
 pub mod Readings
 pub mod Seconds
 pub mod StartParts

@@ -20,7 +20,8 @@ use Rattle.request.proofs.Accepted.{Accepts}
 use Rattle.request.proofs.Answers.{read-none}
 use Rattle.request.proofs.Described.{start-inside, lines-there}
 use Rattle.request.proofs.Few.{weight, request-few, Small, request-small}
-use Rattle.request.proofs.Indexing.{FieldSays, accepted-by, few, field-says, placed, fielded, readable-count, readable-lines}
+use Rattle.request.proofs.Indexing.{FieldSays, accepted-by, few, placed, fielded, readable-count, readable-lines}
+use Rattle.request.proofs.OneField.{said}
 
 -- the request that is read
 pub request-of-is : (s : List ℕ) (q : Request) → read-request s ≡ some q → request-of s ≡ q
@@ -108,9 +109,7 @@ module _ (s starts colons : List ℕ) (p : Places) (k : Placed s starts colons p
     index-room = omega (arith, few s starts colons (p .head) (p .fields) places-alone i more)
 
     pub field-said : (f : FieldParts) → f ≡ field-parts (head-of s) i → FieldSays s (request-of s) (p .head) i f
-    field-said f e =
-        subst (λ (x : FieldParts). FieldSays s (request-of s) (p .head) i x) (sym e)
-        (field-says s starts colons (p .head) (p .fields) places-alone i more (request-of s) reads-so)
+    field-said f e = said s starts colons (p .head) (p .fields) places-alone i more f e
 
 -- ---- what `read` leaves
 

@@ -6,7 +6,6 @@ use Prim.Native.Nat.{ℕ, _+_, _≤_, _<_}
 use native.Mathlib.Omega.{arith}
 use lib.ListN.{length, drop, drop-of-length-le}
 use Rattle.cuts.specs.Inner.Parts.{part}
-use Rattle.cuts.proofs.Parts.{length-part}
 use Rattle.contents.specs.Names.{name-as-matched}
 use Rattle.contents.specs.Values.{reduced, values-of}
 use Rattle.request.specs.Inner.Places.{head-of, field-parts, request-of, Placed}
@@ -17,7 +16,7 @@ use Rattle.trials.specs.Inner.Trying.{item-row, field-row, all-rows, mos
 use Rattle.request.specs.declared.Places.{Places}
 use Rattle.trials.specs.declared.Verdict.{Verdict}
 use Rattle.trials.proofs.Items.{fields-le}
-use Rattle.request.proofs.Readings.{request-of-small, fields-many, field-said, short, head-inside}
+use Rattle.request.proofs.Readings.{request-of-small, fields-many, field-said}
 use Rattle.trials.proofs.Sweep.{Swept, swept-first, swept-next, swept-end}
 
 -- the fields before i are tried
@@ -44,28 +43,6 @@ module _ (s starts colons : List ℕ) (p : Places) (k : Placed s starts colons p
   module _ (i : ℕ) (more : i < p .fields) (f : FieldParts) (ef : f ≡ field-parts (head-of s) i) where
     said : FieldSays s (request-of s) (p .head) i f
     said = field-said s starts colons p k i more f ef
-
-    inside : f .end ≤ length s
-    inside = omega (arith, said .inside, head-inside s starts colons p k)
-
-    pub name-order : f .name ≤ f .stop
-    name-order = omega (arith, said .name-order)
-
-    pub name-inside : f .stop ≤ length s
-    name-inside = omega (arith, said .colon-after, said .value-order, inside)
-
-    pub value-order : f .value ≤ f .end
-    value-order = said .value-order
-
-    pub value-inside : f .end ≤ length s
-    value-inside = inside
-
-    pub value-short : length (part s (f .value) (f .end)) ≤ 65535
-    value-short = omega (arith, length-part s (f .value) (f .end) value-order inside, inside, short s starts colons p k)
-
-    -- a room for the whole request has room for each value of it
-    pub value-room : (room : List ℕ) → length s ≤ length room → length (part s (f .value) (f .end)) ≤ length room
-    value-room room h = omega (arith, length-part s (f .value) (f .end) value-order inside, inside)
 
     module _ (name : List ℕ) (en : name ≡ name-as-matched (part s (f .name) (f .stop)))
         (h : List ℕ) (with : Bool) (c : List ℕ) (fits : Bool) (trials : ℕ) (w : Fielding h with c s i fits trials) (r : Verdict)

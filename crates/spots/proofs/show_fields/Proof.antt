@@ -1,8 +1,8 @@
 use mathlib.Core.Path.{_≡_}
 use Prim.Native.Nat.{_-_, _≤_}
 use lib.ListN.{length}
-use Rattle.request.proofs.Readings.{index-room}
-use Rattle.trials.proofs.Fielding.{name-order, name-inside, value-order, value-inside, value-short, value-room}
+use Rattle.request.proofs.Readings.{places-alone, index-room}
+use Rattle.request.proofs.OneField.{name-order, name-inside, value-order, value-inside, value-short, value-room}
 use Rattle.spots.proofs.Showing.{Fielding, fielding-first, fielding-end, fielding-found, fielding-low, fielding-next, none-shown-low}
 use borrow.Author.Needs.{needs}
 use Rattle.spots.proofs.show_fields.Statement.{statement}
@@ -26,13 +26,13 @@ field-at-requires : tie.Need-field-at-requires Inv-loop μ-loop
 field-at-requires c κs = search needs
 
 sub-as-matched : tie.Need-sub-as-matched Inv-loop μ-loop
-sub-as-matched c = search (needs, name-order)
+sub-as-matched c = search (needs, places-alone, name-order)
 
 part-as-matched-start : tie.Need-part-as-matched-start Inv-loop μ-loop
-part-as-matched-start c = search (needs, name-order)
+part-as-matched-start c = search (needs, places-alone, name-order)
 
 part-as-matched-end : tie.Need-part-as-matched-end Inv-loop μ-loop
-part-as-matched-end c = search (needs, name-inside)
+part-as-matched-end c = search (needs, places-alone, name-inside)
 
 slice-aggregate-as-matched : tie.Need-slice-aggregate-as-matched Inv-loop μ-loop
 slice-aggregate-as-matched c = search needs
@@ -41,16 +41,16 @@ as-matched-requires : tie.Need-as-matched-requires Inv-loop μ-loop
 as-matched-requires c κs = search needs
 
 sub-spot-in-field : tie.Need-sub-spot-in-field Inv-loop μ-loop
-sub-spot-in-field c = search (needs, value-order)
+sub-spot-in-field c = search (needs, places-alone, value-order)
 
 part-spot-in-field-start : tie.Need-part-spot-in-field-start Inv-loop μ-loop
-part-spot-in-field-start c = search (needs, value-order)
+part-spot-in-field-start c = search (needs, places-alone, value-order)
 
 part-spot-in-field-end : tie.Need-part-spot-in-field-end Inv-loop μ-loop
-part-spot-in-field-end c = search (needs, value-inside)
+part-spot-in-field-end c = search (needs, places-alone, value-inside)
 
 spot-in-field-requires : tie.Need-spot-in-field-requires Inv-loop μ-loop
-spot-in-field-requires c κs = ((search value-short, search (needs, value-room)), (search needs, search needs))
+spot-in-field-requires c κs = ((search (places-alone, value-short), search (needs, places-alone, value-room)), (search needs, search needs))
 
 shown-in-requires : tie.Need-shown-in-requires Inv-loop μ-loop
 shown-in-requires c κs = search needs

@@ -2,8 +2,9 @@ use mathlib.Core.Path.{_≡_}
 use Prim.Native.Nat.{_-_, _≤_}
 use lib.ListN.{length}
 use borrow.Author.Needs.{needs}
-use Rattle.trials.proofs.Fielding.{Fielding, fielding-first, fielding-few, fielding-end, name-order, name-inside, value-order, value-inside, value-short, value-room, fielding-next, fielding-fit}
-use Rattle.request.proofs.Readings.{index-room}
+use Rattle.trials.proofs.Fielding.{Fielding, fielding-first, fielding-few, fielding-end, fielding-next, fielding-fit}
+use Rattle.request.proofs.OneField.{name-order, name-inside, value-order, value-inside, value-short, value-room}
+use Rattle.request.proofs.Readings.{places-alone, index-room}
 use Rattle.trials.proofs.try_fields.Statement.{statement}
 use Rattle.trials.proofs.try_fields.Tie as tie
 
@@ -23,13 +24,13 @@ field-at-requires : tie.Need-field-at-requires Inv-loop μ-loop
 field-at-requires c κs = search needs
 
 sub-as-matched : tie.Need-sub-as-matched Inv-loop μ-loop
-sub-as-matched c = search (needs, name-order)
+sub-as-matched c = search (needs, places-alone, name-order)
 
 part-as-matched-start : tie.Need-part-as-matched-start Inv-loop μ-loop
-part-as-matched-start c = search (needs, name-order)
+part-as-matched-start c = search (needs, places-alone, name-order)
 
 part-as-matched-end : tie.Need-part-as-matched-end Inv-loop μ-loop
-part-as-matched-end c = search (needs, name-inside)
+part-as-matched-end c = search (needs, places-alone, name-inside)
 
 slice-aggregate-as-matched : tie.Need-slice-aggregate-as-matched Inv-loop μ-loop
 slice-aggregate-as-matched c = search needs
@@ -38,16 +39,16 @@ as-matched-requires : tie.Need-as-matched-requires Inv-loop μ-loop
 as-matched-requires c κs = search needs
 
 sub-try-field : tie.Need-sub-try-field Inv-loop μ-loop
-sub-try-field c = search (needs, value-order)
+sub-try-field c = search (needs, places-alone, value-order)
 
 part-try-field-start : tie.Need-part-try-field-start Inv-loop μ-loop
-part-try-field-start c = search (needs, value-order)
+part-try-field-start c = search (needs, places-alone, value-order)
 
 part-try-field-end : tie.Need-part-try-field-end Inv-loop μ-loop
-part-try-field-end c = search (needs, value-inside)
+part-try-field-end c = search (needs, places-alone, value-inside)
 
 try-field-requires : tie.Need-try-field-requires Inv-loop μ-loop
-try-field-requires c κs = ((search value-short, search (needs, value-room)), (search needs, search needs))
+try-field-requires c κs = ((search (places-alone, value-short), search (needs, places-alone, value-room)), (search needs, search needs))
 
 add-trials : tie.Need-add-trials Inv-loop μ-loop
 add-trials c =

@@ -2,8 +2,9 @@ use mathlib.Core.Path.{_≡_}
 use Prim.Native.Nat.{_-_, _≤_}
 use lib.ListN.{length}
 use borrow.Author.Needs.{needs}
-use Rattle.request.proofs.Readings.{index-room}
-use Rattle.probes.proofs.Placing.{Fielding, fielding-first, fielding-end, name-order, name-inside, value-order, value-inside, value-fits, value-short, fielding-next, fielding-room}
+use Rattle.request.proofs.OneField.{name-order, name-inside, value-order, value-inside, value-short, value-room}
+use Rattle.request.proofs.Readings.{places-alone, index-room}
+use Rattle.probes.proofs.Placing.{Fielding, fielding-first, fielding-end, fielding-next, fielding-room}
 use Rattle.probes.proofs.counts.count_all_values.Statement.{statement}
 use Rattle.probes.proofs.counts.count_all_values.Tie as tie
 
@@ -23,13 +24,13 @@ field-at-requires : tie.Need-field-at-requires Inv-loop μ-loop
 field-at-requires c κs = search needs
 
 sub-as-matched : tie.Need-sub-as-matched Inv-loop μ-loop
-sub-as-matched c = search (needs, name-order)
+sub-as-matched c = search (needs, places-alone, name-order)
 
 part-as-matched-start : tie.Need-part-as-matched-start Inv-loop μ-loop
-part-as-matched-start c = search (needs, name-order)
+part-as-matched-start c = search (needs, places-alone, name-order)
 
 part-as-matched-end : tie.Need-part-as-matched-end Inv-loop μ-loop
-part-as-matched-end c = search (needs, name-inside)
+part-as-matched-end c = search (needs, places-alone, name-inside)
 
 slice-aggregate-as-matched : tie.Need-slice-aggregate-as-matched Inv-loop μ-loop
 slice-aggregate-as-matched c = search needs
@@ -38,16 +39,16 @@ as-matched-requires : tie.Need-as-matched-requires Inv-loop μ-loop
 as-matched-requires c κs = search needs
 
 sub-count-values : tie.Need-sub-count-values Inv-loop μ-loop
-sub-count-values c = search (needs, value-order)
+sub-count-values c = search (needs, places-alone, value-order)
 
 part-count-values-start : tie.Need-part-count-values-start Inv-loop μ-loop
-part-count-values-start c = search (needs, value-order)
+part-count-values-start c = search (needs, places-alone, value-order)
 
 part-count-values-end : tie.Need-part-count-values-end Inv-loop μ-loop
-part-count-values-end c = search (needs, value-inside)
+part-count-values-end c = search (needs, places-alone, value-inside)
 
 count-values-requires : tie.Need-count-values-requires Inv-loop μ-loop
-count-values-requires c κs = (search (needs, value-fits), search value-short)
+count-values-requires c κs = (search (needs, places-alone, value-room), search (places-alone, value-short))
 
 add-n : tie.Need-add-n Inv-loop μ-loop
 add-n c = search (needs, fielding-room)

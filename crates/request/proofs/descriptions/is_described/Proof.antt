@@ -1,7 +1,8 @@
 use mathlib.Core.Path.{_≡_}
 use Prim.Native.Nat.{_-_, _≤_}
 use lib.ListN.{length}
-use Rattle.request.proofs.Described.{Looking, looking-first, looking-past, looking-on, looking-end, second-one, next-room, name-order, name-end, value-order, value-end, value-short, value-room}
+use Rattle.request.proofs.Described.{Looking, looking-first, looking-past, looking-on, looking-end, second-one, next-room}
+use Rattle.request.proofs.OneField.{name-order, name-inside, value-order, value-inside, value-short, value-room}
 use borrow.Author.Needs.{needs}
 use Rattle.request.proofs.descriptions.is_described.Statement.{statement}
 use Rattle.request.proofs.descriptions.is_described.Tie as tie
@@ -32,7 +33,7 @@ part-as-matched-start : tie.Need-part-as-matched-start Inv-loop μ-loop
 part-as-matched-start c = search (needs, name-order)
 
 part-as-matched-end : tie.Need-part-as-matched-end Inv-loop μ-loop
-part-as-matched-end c = search (needs, name-end)
+part-as-matched-end c = search (needs, name-inside)
 
 slice-aggregate-as-matched : tie.Need-slice-aggregate-as-matched Inv-loop μ-loop
 slice-aggregate-as-matched c = search needs
@@ -65,7 +66,7 @@ part-value-describes-start : tie.Need-part-value-describes-start Inv-loop μ-loo
 part-value-describes-start c = search (needs, value-order)
 
 part-value-describes-end : tie.Need-part-value-describes-end Inv-loop μ-loop
-part-value-describes-end c = search (needs, value-end)
+part-value-describes-end c = search (needs, value-inside)
 
 value-describes-requires : tie.Need-value-describes-requires Inv-loop μ-loop
 value-describes-requires c κs = (search value-short, search (needs, value-room))
