@@ -1,4 +1,4 @@
--- The scan of a test: it ends at the first part that it finds, and leaves out what cannot change the answer.
+-- The scan of a test, which ends at the first part that it finds; and what a scan leaves out, since it cannot change the answer.
 use mathlib.Core.Path.{_≡_, refl, sym, ap, ap₂, _∙_, subst, subst⁻¹}
 use mathlib.Core.Bool.{Bool, true, false, not, _&&_, _||_, true≢false, or-false, and-false}
 use mathlib.Core.List.{List, [], _∷_}
@@ -15,10 +15,10 @@ use Rattle.octets.specs.Inner.Masks.{Below}
 use Rattle.octets.specs.Lists.{empty}
 use Rattle.octets.proofs.Bits.{bit-zero, bit-and, bit-drop, bit-inside, below-wider, lowest-set, lowest-drop, or-none-left, or-none-right}
 use Rattle.octets.proofs.Tests.{T-of, is-true, not-T-of, both, left, right, or-right, or-cases, or-neither}
-use Rattle.machine.specs.Inner.Machine.{Machine, Live, live-end, live-on, Starts, starts-none, starts-live, StartsAt, Found, first-mask, last-mask, null-at, null-somewhere, in-set, has, machine-of, Closed, Stepped, SomeMet, Only, Shut, LastMet}
+use Rattle.machine.specs.Inner.Machine.{Machine, Live, live-end, live-on, Starts, starts-none, starts-live, StartsAt, Leftmost, Found, first-mask, last-mask, null-at, null-somewhere, in-set, has, machine-of, Closed, Stepped, SomeMet, Only, Shut, LastMet, Passed}
 use Rattle.machine.specs.declared.Shape.{Shape}
 use Rattle.machine.proofs.Places.{drop-at, empty-at}
-use Rattle.machine.proofs.Scan.{Scan, dead, met-has, has-met, scan-below, candidate-live, live-candidate, found-hit, found-miss, found-end, found-first-miss, found-neither, found-none, tested}
+use Rattle.machine.proofs.Scan.{Scan, dead, met-has, has-met, scan-below, scan-miss, candidate-live, live-candidate, found-hit, found-miss, found-end, found-first-miss, found-neither, found-none, tested}
 
 -- ---- a mask with one position
 
@@ -64,6 +64,51 @@ not-shut h sets b e = absurd (true≢false (sym e))
 pub shut-start : (h : Shape) (sets : List (List ℕ)) (b : ℕ) (r : Bool) → h .inner ≡ 0 → SomeMet sets (h .start) b r → not r ≡ true → Shut h sets b
 shut-start h sets b r i w q = record { not-inner = i; not-start = w .no (not-true r q) }
 
+-- ---- bytes that are left out
+
+module _ (h : Shape) (sets : List (List ℕ)) (text : List ℕ) where
+  -- from i down to k, no position that may end a part meets a byte
+  abbrev Idle : ℕ → ℕ → Type 0
+  Idle k i = (j : ℕ) → k ≤ j → j < i → (q : ℕ) → T (bit (h .stops) q) → has sets q (getD text j 0) ≡ false
+
+  -- the position `door` meets none of them, and no other may end a part
+  unmet : (door k i : ℕ) → ((q : ℕ) → T (bit (h .stops) q) → q ≡ door) → ((j : ℕ) → k ≤ j → j < i → has sets door (getD text j 0) ≡ false) → Idle k i
+  unmet door k i one out j a b q t = ap (λ (p : ℕ). has sets p (getD text j 0)) (one q t) ∙ out j a b
+
+  module _ (next i : ℕ) (up : 0 < i) where
+    pub pass-none : Passed h sets text next i i
+    pass-none = record {
+      above = up;
+      within = omega arith;
+      not-live = λ l. absurd (omega arith);
+      not-empty = λ l. absurd (omega arith);
+      not-last = λ l. absurd (omega arith);
+      unmet = λ k a b. absurd (omega arith);
+    }
+
+    module _ (z : next ≡ 0) (m : h .middle ≡ false) (inside : i ≤ length text) (n : i ≡ length text → ⊥) where
+      pub pass-all : h .stops ≡ 0 → Passed h sets text next i 1
+      pass-all e = record {
+        above = omega arith;
+        within = omega arith;
+        not-live = λ l. z;
+        not-empty = λ l. m;
+        not-last = λ l. omega (arith, n);
+        unmet = λ k a b q t. absurd (not-T-of (ap (λ (x : ℕ). bit x q) e ∙ bit-zero q) t);
+      }
+
+      pub pass-door : (door r : ℕ) → Only (h .stops) door → door < 60 → LastMet (getD sets door []) text (i - 1) r → Passed h sets text next i (r + 1)
+      pass-door door r one d w =
+          let low : r ≤ i - 1 = w .within in
+          record {
+            above = omega arith;
+            within = omega arith;
+            not-live = λ l. z;
+            not-empty = λ l. m;
+            not-last = λ l. omega (arith, n);
+            unmet = unmet door (r + 1) i (one d) (λ j a b. w .none j (omega arith) (omega arith));
+          }
+
 -- ---- the scan
 
 -- the bytes above i are read, no part begins there, and these are the candidates for the byte at i
@@ -93,6 +138,22 @@ module _ (h : Shape) (sets : List (List ℕ)) (before : List ℕ) where
       none-at k false e = ap (λ (a : Bool). a && not (bit 0 k) && has sets k b) e
 
   module _ (text : List ℕ) where
+    -- ---- bytes at which nothing can get live
+
+    -- from i down to k, no empty part fits
+    abbrev Bare : ℕ → ℕ → Type 0
+    Bare k i = (j : ℕ) → k ≤ j → j < i → null-at h (eqb j 0) false ≡ false
+
+    quiet : (r i k n : ℕ) → k + n ≡ i → i < length text → Bare k i → Scan h sets before text i 0 r → Idle h sets text k i → Scan h sets before text k 0 r
+    quiet r i k zero e l bare s out = let z : i ≡ k = omega arith in subst (λ (m : ℕ). Scan h sets before text m 0 r) z s
+    quiet r i k (suc n) e l bare s out =
+        scan-miss h sets before text (k + 1) k 0 r (h .stops) 0 0 refl
+        (quiet r i (k + 1) n (omega arith) l (λ j a b. bare j (omega arith) b) s (λ j a b. out j (omega arith) b))
+        (sym (ap (last-mask h) (ne-eqb (k + 1) (length text) (λ z. omega arith))))
+        (idle (getD text k 0) (out k (omega arith) (omega arith)))
+        (tested h sets before text k false 0) refl
+        (ap₂ _||_ (bare k (omega arith) (omega arith)) (ap (λ (n : ℕ). not (eqb n 0)) (and-zero-r (first-mask h (eqb k 0)))))
+
     -- ---- the empty part
 
     pub found-empty : Closed h before → length text ≡ 0 → Found M text (h .whole)
@@ -172,30 +233,44 @@ module _ (h : Shape) (sets : List (List ℕ)) (before : List ℕ) where
                 let z : j ≡ length text = let l : length text ≤ j = ltb-false j (length text) u in omega arith in
                 begun-end (subst (λ (x : List ℕ). Starts M (eqb (length text) 0) x) (drop-length text) (subst (λ (k : ℕ). StartsAt M text k) z v))
 
-        -- ---- bytes at which nothing can get live
+    -- ---- the smallest place
 
-        -- from i down to k, no position that may end a part meets a byte
-        abbrev Idle : ℕ → ℕ → Type 0
-        Idle k i = (j : ℕ) → k ≤ j → j < i → (q : ℕ) → T (bit (h .stops) q) → has sets q (getD text j 0) ≡ false
+    pub first-at-once : (h .head && ltb 0 (length text)) ≡ true → Leftmost M text 0
+    first-at-once e =
+        let u : T (h .head && ltb 0 (length text)) = T-of e in
+        let l : 0 < length text = ltb-true 0 (length text) (is-true (ltb 0 (length text)) (right (h .head) (ltb 0 (length text)) u)) in
+        record {
+          within = omega arith;
+          before = λ j k. absurd (omega arith);
+          found = λ w. starts-none (subst⁻¹ (λ (x : Bool). T (null-at h true x)) (empty-at text 0 (omega arith) ∙ ne-eqb 0 (length text) (λ z. omega arith)) (left (h .head) (ltb 0 (length text)) u));
+        }
 
-        -- the position `door` meets none of them, and no other may end a part
-        unmet : (door k i : ℕ) → ((q : ℕ) → T (bit (h .stops) q) → q ≡ door) → ((j : ℕ) → k ≤ j → j < i → has sets door (getD text j 0) ≡ false) → Idle k i
-        unmet door k i one out j a b q t = ap (λ (p : ℕ). has sets p (getD text j 0)) (one q t) ∙ out j a b
-
-        quiet : (i k n : ℕ) → k + n ≡ i → i < length text → Scan h sets before text i 0 (length text + 1) → Idle k i → Scan h sets before text k 0 (length text + 1)
-        quiet i k zero e l s out = let z : i ≡ k = omega arith in subst (λ (m : ℕ). Scan h sets before text m 0 (length text + 1)) z s
-        quiet i k (suc n) e l s out =
-            found-miss h sets before text (k + 1) k 0 (h .stops) 0 0 refl
-            (quiet i (k + 1) n (omega arith) l s (λ j a b. out j (omega arith) b))
-            (sym (ap (last-mask h) (ne-eqb (k + 1) (length text) (λ z. omega arith))))
-            (idle (getD text k 0) (out k (omega arith) (omega arith)))
-            (tested h sets before text k false 0) refl (untested k 0 (omega arith) (and-zero-r (first-mask h (eqb k 0))))
+    pub scan-pass : (i next best r : ℕ) → Scan h sets before text i next best → Passed h sets text next i r → Scan h sets before text r next best
+    scan-pass i next best r s p = go (ltb r i) refl
+      where
+        go : (t : Bool) → ltb r i ≡ t → Scan h sets before text r next best
+        go true e =
+            let l : r < i = ltb-true r i e in
+            let up : 0 < r = p .above in
+            let low : r + (i - r) ≡ i = omega arith in
+            subst⁻¹ (λ (m : ℕ). Scan h sets before text r m best) (p .not-live l)
+            (quiet best i r (i - r) low (p .not-last l)
+            (λ j a b. ap (λ (t : Bool). null-at h t false) (ne-eqb j 0 (λ z. omega arith)) ∙ p .not-empty l)
+            (subst (λ (m : ℕ). Scan h sets before text i m best) (p .not-live l) s) (p .unmet))
+        go false e =
+            let l : i ≤ r = ltb-false r i e in
+            let w : r ≤ i = p .within in
+            let same : i ≡ r = omega arith in
+            subst (λ (m : ℕ). Scan h sets before text m next best) same s
 
     -- ---- the loop
 
     module _ (some : length text ≡ 0 → ⊥) (r : Bool) (er : r ≡ null-somewhere h (length text)) (qr : r ≡ false) where
       pub found-shut : Shut h sets (getD text 0 0) → Found M text false
       found-shut s = without some (sym er ∙ qr) s
+
+      pub shut-nothing : (t : Bool) → (t ≡ true → Shut h sets (getD text 0 0)) → t ≡ true → Leftmost M text (length text + 1)
+      shut-nothing t s e = found-shut (s e) .no refl
 
       pub hunt-first : Closed h before → Hunt h sets before text (h .ends) (length text - 1)
       hunt-first c =
@@ -245,6 +320,9 @@ module _ (h : Shape) (sets : List (List ℕ)) (before : List ℕ) where
           scan-here : Scan h sets before text i next (length text + 1)
           scan-here = read-on (ap (λ (m : ℕ). bitAnd m live) not-start ∙ z)
 
+          bare-below : Bare 0 i
+          bare-below j a b = no-null some (s .bare) (eqb j 0) j refl (let l : i < length text = s .inside in omega arith)
+
           pub hunt-next : Hunt h sets before text (bitOr next (h .stops)) (i - 1)
           hunt-next =
               let e : i ≡ i - 1 + 1 = omega arith in
@@ -261,7 +339,7 @@ module _ (h : Shape) (sets : List (List ℕ)) (before : List ℕ) where
           pub hunt-dead : bitOr next (h .stops) ≡ 0 → Found M text false
           hunt-dead e =
               found-none h sets before text 0 0 zero-le
-              (quiet some (s .bare) i 0 i (omega arith) (s .inside) (subst (λ (m : ℕ). Scan h sets before text i m (length text + 1)) (or-none-left next (h .stops) e) scan-here)
+              (quiet (length text + 1) i 0 i (omega arith) (s .inside) bare-below (subst (λ (m : ℕ). Scan h sets before text i m (length text + 1)) (or-none-left next (h .stops) e) scan-here)
               (λ j a b q t. absurd (not-T-of (ap (λ (m : ℕ). bit m q) (or-none-right next (h .stops) e) ∙ bit-zero q) t)))
 
           -- no position may stand before a live one, and the one that may end a part meets no byte above r
@@ -273,7 +351,7 @@ module _ (h : Shape) (sets : List (List ℕ)) (before : List ℕ) where
               record {
                 next = next;
                 inside = omega arith;
-                scan = subst⁻¹ (λ (n : ℕ). Scan h sets before text (r + 1) n (length text + 1)) e (quiet some (s .bare) i (r + 1) (i - (r + 1)) low l (subst (λ (n : ℕ). Scan h sets before text i n (length text + 1)) e scan-here) (unmet some (s .bare) door (r + 1) i (one d) (λ j a b. m .none j (omega arith) (omega arith))));
+                scan = subst⁻¹ (λ (n : ℕ). Scan h sets before text (r + 1) n (length text + 1)) e (quiet (length text + 1) i (r + 1) (i - (r + 1)) low l (λ j a b. bare-below j zero-le b) (subst (λ (n : ℕ). Scan h sets before text i n (length text + 1)) e scan-here) (unmet h sets text door (r + 1) i (one d) (λ j a b. m .none j (omega arith) (omega arith))));
                 known = ap (bitOr next) (sym (ap (last-mask h) (ne-eqb (r + 1) (length text) (λ q. omega arith))));
                 bare = s .bare;
               }

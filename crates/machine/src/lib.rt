@@ -2,13 +2,13 @@
 ghost use mathlib.Core.Path.{_≡_};
 ghost use mathlib.Core.Bool.{true, false, not, _||_};
 ghost use mathlib.Core.List.{[]};
-ghost use Prim.Native.Nat.{_+_, _<_};
+ghost use Prim.Native.Nat.{_+_, _<_, _≤_};
 ghost use lib.Bits.{bitAnd};
 ghost use lib.Dec.{eqb};
 ghost use lib.ListN.{getD, length};
 ghost use Rattle.octets.specs.Lists.{pick};
 ghost use Rattle.octets.specs.Inner.Masks.{Below};
-ghost use Rattle.machine.specs.Inner.Machine.{Closed, Stepped, SomeMet, Leftmost, Found, Only, Shut, LastMet, first-mask, last-mask, null-at, null-somewhere, has, machine-of};
+ghost use Rattle.machine.specs.Inner.Machine.{Closed, Stepped, SomeMet, Leftmost, Found, Only, Shut, LastMet, Passed, first-mask, last-mask, null-at, null-somewhere, has, machine-of};
 
 // How many positions there are, which the matching need not ask (`Closed`); which of them may begin a part, at the text's start or
 // elsewhere; which may end one, at the text's end or elsewhere; and whether the empty part fits: as the whole text, at its start, at its
@@ -131,29 +131,7 @@ fn end_place(h: Shape, n: usize) -> usize
     n + 1
 }
 
-// The smallest place at which a part of the text fits, or one above its length: a scan from the end, so that what is live before
-// a byte follows from what is live behind it, and the last place found is the smallest.
-pub fn leftmost(h: Shape, sets: &[[u64; 4]; 60], before: &[u64; 60], text: &[u8]) -> usize
-    requires { ⌜ Closed h (now before) ⌝ }
-    ensures { λ r. ⌜ Leftmost (machine-of h (now (sets .entry)) (now (before .entry))) (now (text .entry)) r ⌝ }
-{
-    let n = text.len();
-    let mut best = end_place(h, n);
-    let mut next: u64 = 0;
-    let mut i = n;
-    while 0 < i {
-        let stop = last_of(h, i == n);
-        i -= 1;
-        let f = step(sets, before, next | stop, text[i]);
-        next = f.next;
-        if begins(h, i == 0, false, f.live) {
-            best = i;
-        }
-    }
-    best
-}
-
-// ---- what a test need not look at
+// ---- what need not be looked at
 
 // Whether the empty part fits somewhere in a text of n bytes that is not empty.
 fn empty_somewhere(h: Shape, n: usize) -> bool
@@ -198,6 +176,85 @@ fn last_met(sets: &[[u64; 4]; 60], p: usize, text: &[u8], from: usize) -> usize
         i -= 1;
     }
     0
+}
+
+// Where the scan goes on, from the place i: the bytes between are left out, where nothing is live, no empty part fits and no position
+// that may end a part meets a byte.
+fn passed(h: Shape, sets: &[[u64; 4]; 60], text: &[u8], next: u64, i: usize) -> usize
+    requires { ⌜ (0 < i) × (i ≤ length (now text)) ⌝ }
+    ensures { λ r. ⌜ Passed h (now (sets .entry)) (now (text .entry)) next i r ⌝ }
+{
+    if next != 0 {
+        return i;
+    }
+    if h.middle {
+        return i;
+    }
+    if i == text.len() {
+        return i;
+    }
+    if h.stops == 0 {
+        return 1;
+    }
+    let door = only(h.stops);
+    if door < 60 {
+        return last_met(sets, door, text, i - 1) + 1;
+    }
+    i
+}
+
+// The smallest place at which a part of the text fits, or one above its length: a scan from the end, so that what is live before
+// a byte follows from what is live behind it, and the last place found is the smallest.
+fn smallest(h: Shape, sets: &[[u64; 4]; 60], before: &[u64; 60], text: &[u8]) -> usize
+    requires { ⌜ Closed h (now before) ⌝ }
+    ensures { λ r. ⌜ Leftmost (machine-of h (now (sets .entry)) (now (before .entry))) (now (text .entry)) r ⌝ }
+{
+    let n = text.len();
+    let mut best = end_place(h, n);
+    let mut next: u64 = 0;
+    let mut i = n;
+    while 0 < i {
+        let top = passed(h, sets, text, next, i);
+        let stop = last_of(h, top == n);
+        i = top - 1;
+        let f = step(sets, before, next | stop, text[i]);
+        next = f.next;
+        if begins(h, i == 0, false, f.live) {
+            best = i;
+        }
+    }
+    best
+}
+
+// Whether the text's first byte shows that no part of it fits.
+fn shut_out(h: Shape, sets: &[[u64; 4]; 60], before: &[u64; 60], text: &[u8]) -> bool
+    requires { ⌜ Closed h (now before) ⌝ }
+    ensures { λ r. ⌜ (r ≡ true → Leftmost (machine-of h (now (sets .entry)) (now (before .entry))) (now (text .entry)) (length (now (text .entry)) + 1)) ⌝ }
+{
+    let n = text.len();
+    if n == 0 {
+        return false;
+    }
+    if empty_somewhere(h, n) {
+        return false;
+    }
+    shut(h, sets, text[0])
+}
+
+// The smallest place at which a part of the text fits, or one above its length. An empty part may fit at the start, and the first byte
+// may show that none does.
+pub fn leftmost(h: Shape, sets: &[[u64; 4]; 60], before: &[u64; 60], text: &[u8]) -> usize
+    requires { ⌜ Closed h (now before) ⌝ }
+    ensures { λ r. ⌜ Leftmost (machine-of h (now (sets .entry)) (now (before .entry))) (now (text .entry)) r ⌝ }
+{
+    let n = text.len();
+    if h.head & (0 < n) {
+        return 0;
+    }
+    if shut_out(h, sets, before, text) {
+        return n + 1;
+    }
+    smallest(h, sets, before, text)
 }
 
 // Whether some part of a text that is not empty fits, where no empty one does: the same scan, which ends at the first place that it

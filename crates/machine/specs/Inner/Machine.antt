@@ -103,7 +103,7 @@ pub record SomeMet (sets : List (List ℕ)) (candidates b : ℕ) (r : Bool) : Ty
   pub yes : r ≡ true → (p : ℕ) × T (bit candidates p) × T (has sets p b)
   pub no : r ≡ false → (p : ℕ) → T (bit candidates p) → T (has sets p b) → ⊥
 
--- ---- what a test need not look at
+-- ---- what need not be looked at
 
 -- the empty part fits somewhere in a text of n bytes that is not empty
 abbrev pub null-somewhere : Shape → ℕ → Bool
@@ -123,3 +123,13 @@ Only mask r = r < 60 → (k : ℕ) → T (bit mask k) → k ≡ r
 pub record LastMet (set text : List ℕ) (from r : ℕ) : Type 0 where
   pub within : r ≤ from
   pub none : (k : ℕ) → r < k → k ≤ from → in-set set (getD text k 0) ≡ false
+
+-- From i a scan that keeps `next` goes on at r: at the places between nothing is live, no empty part fits, and no position that may end a
+-- part meets the byte.
+pub record Passed (h : Shape) (sets : List (List ℕ)) (text : List ℕ) (next i r : ℕ) : Type 0 where
+  pub above : 0 < r
+  pub within : r ≤ i
+  pub not-live : r < i → next ≡ 0
+  pub not-empty : r < i → h .middle ≡ false
+  pub not-last : r < i → i < length text
+  pub unmet : (k : ℕ) → r ≤ k → k < i → (q : ℕ) → T (bit (h .stops) q) → has sets q (getD text k 0) ≡ false
