@@ -2,57 +2,56 @@
 use mathlib.Core.Path.{_≡_, refl, sym, ap, _∙_, subst, subst⁻¹}
 use mathlib.Core.Bool.{Bool, true, false, not, _&&_}
 use mathlib.Core.List.{List, _∷_}
-use Prim.Native.Nat.{ℕ, zero, suc, _+_, _*_, _-_, _%_, _^_, _<_, _≤_}
+use Prim.Native.Nat.{ℕ, zero, suc, _+_, _-_, _<_, _≤_}
 use native.Mathlib.Omega.{arith}
-use lib.Bits.{bitAnd, bitOr}
+use lib.Bits.{bitAnd}
 use lib.Dec.{T, eqb, ltb}
 use lib.ListN.{length, getD, drop, length-drop}
 use borrow.Author.Tests.{ltb-true, ltb-false, eqb-true, eqb-false, eq-eqb, ne-eqb}
 use Rattle.octets.specs.Bits.{bit}
 use Rattle.octets.specs.Inner.Masks.{Below}
 use Rattle.octets.specs.Lists.{empty}
-use Rattle.octets.proofs.Bits.{Mask, mask-none, mask-add, mask-skip, shl-one, bit-zero, bit-inside, below-wider, common, share}
-use Rattle.octets.proofs.Tests.{T-of, not-T-of, both, left, right}
+use Rattle.octets.proofs.Bits.{bit-zero, bit-inside, below-wider, common, share}
+use Rattle.octets.proofs.Tests.{T-of, not-T-of, is-true, both, left, right}
 use Rattle.machine.specs.Inner.Machine.{Machine, first-mask, last-mask, has, machine-of, Closed, Stepped}
 use Rattle.machine.specs.declared.Shape.{Shape}
 use Rattle.machine.proofs.Places.{drop-at, empty-at}
 use Rattle.machine.proofs.Scan.{met-has, has-met}
-use Rattle.part.specs.Inner.Part.{Runs, runs-end, runs-on, Part, part-some, Longest, After}
+use Rattle.part.specs.Inner.Part.{Runs, runs-end, runs-on, Part, part-some, Longest, Turned}
 use Rattle.part.proofs.Lengths.{starts-part, part-within, runs-one, runs-more, part-first}
 
 -- ---- the positions behind a live one
 
 -- whether q may come right after a live one
-abbrev pub behind-live : List ℕ → ℕ → ℕ → Bool
+abbrev behind-live : List ℕ → ℕ → ℕ → Bool
 behind-live before live q = not (eqb (bitAnd (getD before q 0) live) 0)
 
--- the mask has those below q
-pub record Gathered (before : List ℕ) (live q mask : ℕ) : Type 0 where
-  pub those : Mask (behind-live before live) q mask
+-- the mask has those, and no others
+record After (size : ℕ) (before : List ℕ) (live r : ℕ) : Type 0 where
+  is : (q : ℕ) → bit r q ≡ (ltb q size && behind-live before live q)
 
-pub after-none : (before : List ℕ) (live : ℕ) → Gathered before live 0 0
-after-none before live = record { those = mask-none (behind-live before live) }
-
-pub after-add : (before : List ℕ) (live q mask : ℕ) → q < 64 → Gathered before live q mask → (bitAnd (getD before q 0) live ≡ 0 → ⊥)
-    → Gathered before live (q + 1) (bitOr mask (1 * 2 ^ q % 2 ^ 64))
-after-add before live q mask l m n = record {
-  those =
-      subst⁻¹ (λ (x : ℕ). Mask (behind-live before live) (q + 1) (bitOr mask x)) (shl-one 64 q l)
-      (mask-add (behind-live before live) q mask (m .those) (ap not (ne-eqb (bitAnd (getD before q 0) live) 0 n)));
-}
-
-pub after-skip : (before : List ℕ) (live q mask : ℕ) → Gathered before live q mask → bitAnd (getD before q 0) live ≡ 0
-    → Gathered before live (q + 1) mask
-after-skip before live q mask m e = record {
-  those = mask-skip (behind-live before live) q mask (m .those) (ap not (eq-eqb (bitAnd (getD before q 0) live) 0 e));
-}
-
-pub after-all : (size : ℕ) (before : List ℕ) (live q mask : ℕ) → q ≤ size → size ≤ q → Gathered before live q mask → After size before live mask
-after-all size before live q mask l g m = record { is = λ p. go p (ltb p size) refl }
+-- what a step by masks that are read the other way round gathers
+gathered : (sets : List (List ℕ)) (size candidates b live next : ℕ) (before after : List ℕ) → Turned size before after → Stepped sets after candidates b 0 live next
+    → After size before live next
+gathered sets size candidates b live next before after t w = record { is = λ q. same (bit next q) (ltb q size && behind-live before live q) (to q) (from q) }
   where
-    go : (p : ℕ) (t : Bool) → ltb p size ≡ t → bit mask p ≡ (t && behind-live before live p)
-    go p true e = let k : p < size = ltb-true p size e in m .those .set p (omega arith)
-    go p false e = let k : size ≤ p = ltb-false p size e in m .those .rest p (omega arith)
+    same : (a c : Bool) → (T a → T c) → (T c → T a) → a ≡ c
+    same true c f g = sym (is-true c (f tt))
+    same false true f g = absurd (g tt)
+    same false false f g = refl
+
+    to : (q : ℕ) → T (bit next q) → T (ltb q size && behind-live before live q)
+    to q u =
+        let p = w .back q u in
+        let v : T (ltb q size && bit (getD before q 0) (p .0)) = subst T (t .is (p .0) q) (p .2) in
+        both (ltb q size) (behind-live before live q) (left (ltb q size) (bit (getD before q 0) (p .0)) v)
+        (share (getD before q 0) live (p .0) (right (ltb q size) (bit (getD before q 0) (p .0)) v) (p .1))
+
+    from : (q : ℕ) → T (ltb q size && behind-live before live q) → T (bit next q)
+    from q u =
+        let c = common (getD before q 0) live (right (ltb q size) (behind-live before live q) u) in
+        w .forth q (c .0) (c .2)
+        (subst⁻¹ T (t .is (c .0) q) (both (ltb q size) (bit (getD before q 0) (c .0)) (left (ltb q size) (behind-live before live q) u) (c .1)))
 
 -- ---- the loop
 
@@ -102,11 +101,11 @@ module _ (h : Shape) (sets : List (List ℕ)) (before : List ℕ) (text : List �
   pub forward-after : (i candidates best : ℕ) → Forward i candidates best → start ≤ i
   forward-after i candidates best f = let up : i ≡ start + f .k = f .at in omega arith
 
-  pub forward-few : (i candidates best : ℕ) → Forward i candidates best → h .size ≤ 60
-  forward-few i candidates best f = f .closed .few
+  module _ (i candidates best live candidates′ : ℕ) (f : Forward i candidates best) (l : i < length text) (after : List ℕ) (turned : Turned (h .size) before after)
+      (w : Stepped sets after candidates (getD text i 0) 0 live candidates′) where
+    x : After (h .size) before live candidates′
+    x = gathered sets (h .size) candidates (getD text i 0) live candidates′ before after turned w
 
-  module _ (i candidates best live next candidates′ : ℕ) (f : Forward i candidates best) (l : i < length text)
-      (w : Stepped sets before candidates (getD text i 0) 0 live next) (x : After (h .size) before live candidates′) where
     abbrev b : ℕ
     b = getD text i 0
 

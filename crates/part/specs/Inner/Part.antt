@@ -1,12 +1,11 @@
 -- A part of a text that a machine takes, with its length. `Starts` of `machine` says that there is one; proofs/Lengths shows that it says
 -- just this.
 use mathlib.Core.Path.{_≡_}
-use mathlib.Core.Bool.{Bool, not, _&&_}
+use mathlib.Core.Bool.{Bool, _&&_, _||_}
 use mathlib.Core.List.{List, _∷_}
 use Prim.Native.Nat.{ℕ, zero, suc, _≤_}
-use lib.Bits.{bitAnd}
 use lib.Dec.{T, eqb, ltb}
-use lib.ListN.{getD, drop}
+use lib.ListN.{getD, drop, length}
 use Rattle.octets.specs.Bits.{bit}
 use Rattle.octets.specs.Lists.{empty}
 use Rattle.machine.specs.Inner.Machine.{Machine, Starts}
@@ -31,6 +30,11 @@ pub record Longest (M : Machine) (a : Bool) (s : List ℕ) (r : ℕ) : Type 0 wh
   pub found : Starts M a s → Part M a r s
   pub nonzero : (r ≡ 0 → ⊥) → Part M a r s
 
--- the mask of the positions that may come right after a live one
-pub record After (size : ℕ) (before : List ℕ) (live r : ℕ) : Type 0 where
-  pub is : (q : ℕ) → bit r q ≡ (ltb q size && not (eqb (bitAnd (getD before q 0) live) 0))
+-- the bit q is added to the masks of these positions
+pub record Added (positions q : ℕ) (masks masks′ : List ℕ) : Type 0 where
+  pub is : (p k : ℕ) → bit (getD masks′ p 0) k ≡ (bit (getD masks p 0) k || (bit positions p && eqb k q))
+  pub long : length masks′ ≡ length masks
+
+-- `after` is `before` read the other way round: q is in the mask of p where p is in that of q, a position
+pub record Turned (size : ℕ) (before after : List ℕ) : Type 0 where
+  pub is : (p q : ℕ) → bit (getD after p 0) q ≡ (ltb q size && bit (getD before q 0) p)
