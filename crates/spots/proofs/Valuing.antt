@@ -11,7 +11,7 @@ use Rattle.octets.specs.Lists.{pick}
 use Rattle.pattern.specs.Inner.Answers.{meets-text}
 use Rattle.place.specs.Inner.Texts.{place-text}
 use Rattle.place.specs.declared.Place.{Place}
-use Rattle.place.proofs.Meeting.{place-meets, place-within}
+use Rattle.place.proofs.Meeting.{place-within}
 use Rattle.cuts.specs.Inner.Parts.{part, over}
 use Rattle.cuts.proofs.Parts.{length-part}
 use Rattle.contents.specs.Inner.Places.{values-from, piece-at}
@@ -31,25 +31,24 @@ bare-spot-low x e = subst LowSpot (sym e) (record { value = omega arith; start =
 
 -- ---- one value
 
-module _ (c v : List ℕ) (m : Bool) (em : m ≡ meets-text false c v) where
-  found-is : place-text false c v .found ≡ m
-  found-is = place-meets false c v ∙ sym em
+module _ (c v : List ℕ) (at : Place) (ea : at ≡ place-text false c v) where
+  found-is : place-text false c v .found ≡ at .found
+  found-is = sym (ap (λ (x : Place). x .found) ea)
 
-  value-here : m ≡ true → (at : Place) → at ≡ place-text false c v → (k : ℕ) (vs : List (List ℕ))
+  value-here : at .found ≡ true → (k : ℕ) (vs : List (List ℕ))
       → _≡_ {A = Spot} (record { found = true; value = k; start = at .start; size = at .size }) (first-value (place-text false c) k (v ∷ vs))
   unfolding first-value
-  value-here h at ea k vs =
+  value-here h k vs =
       ap (λ (x : Place). record { found = true; value = k; start = x .start; size = x .size }) ea
       ∙ sym (ap (λ (b : Bool). pick b (record { found = true; value = k; start = place-text false c v .start; size = place-text false c v .size }) (first-value (place-text false c) (suc k) vs)) (found-is ∙ h))
 
-  value-later : m ≡ false → (k : ℕ) (vs : List (List ℕ)) → first-value (place-text false c) k (v ∷ vs) ≡ first-value (place-text false c) (suc k) vs
+  value-later : at .found ≡ false → (k : ℕ) (vs : List (List ℕ)) → first-value (place-text false c) k (v ∷ vs) ≡ first-value (place-text false c) (suc k) vs
   unfolding first-value
   value-later h k vs =
       ap (λ (b : Bool). pick b (record { found = true; value = k; start = place-text false c v .start; size = place-text false c v .size }) (first-value (place-text false c) (suc k) vs)) (found-is ∙ h)
 
-  low-here : length v ≤ 65535 → (at : Place) → at ≡ place-text false c v → (k : ℕ) → k ≤ 65536
-      → LowSpot (record { found = true; value = k; start = at .start; size = at .size })
-  low-here short at ea k few = record {
+  low-here : length v ≤ 65535 → (k : ℕ) → k ≤ 65536 → LowSpot (record { found = true; value = k; start = at .start; size = at .size })
+  low-here short k few = record {
     value = few;
     start = omega (arith, place-within false c v, ap (λ (x : Place). x .start) ea);
     size = omega (arith, place-within false c v, ap (λ (x : Place). x .size) ea);
@@ -82,21 +81,21 @@ module _ (c v : List ℕ) (p value : ℕ) (k : Seeking c v p value) where
     abbrev this : List ℕ
     this = part v (x .start) (x .end)
 
-    module _ (m : Bool) (em : m ≡ meets-text false c this) where
-      pub seeking-found : m ≡ true → (at : Place) → at ≡ place-text false c this
+    module _ (at : Place) (ea : at ≡ place-text false c this) where
+      pub seeking-found : at .found ≡ true
           → _≡_ {A = Spot} (record { found = true; value = value; start = at .start; size = at .size }) (values-spot c (values-from v 0))
-      seeking-found e at ea =
-          value-here c this m em e at ea value (values-from v (x .next)) ∙ sym (ap (first-value (place-text false c) value) (said .list)) ∙ k .same
+      seeking-found e =
+          value-here c this at ea e value (values-from v (x .next)) ∙ sym (ap (first-value (place-text false c) value) (said .list)) ∙ k .same
 
-      pub seeking-low : length v ≤ 65535 → (at : Place) → at ≡ place-text false c this → LowSpot (record { found = true; value = value; start = at .start; size = at .size })
-      seeking-low short at ea =
-          low-here c this m em (omega (arith, length-part v (x .start) (x .end) (said .order) (said .inside), said .inside)) at ea value (omega (arith, k .few))
+      pub seeking-low : length v ≤ 65535 → LowSpot (record { found = true; value = value; start = at .start; size = at .size })
+      seeking-low short =
+          low-here c this at ea (omega (arith, length-part v (x .start) (x .end) (said .order) (said .inside), said .inside)) value (omega (arith, k .few))
 
-      pub seeking-next : m ≡ false → Seeking c v (x .next) (value + 1)
+      pub seeking-next : at .found ≡ false → Seeking c v (x .next) (value + 1)
       seeking-next e = record {
         same =
             ap (λ (n : ℕ). first-value (place-text false c) n (values-from v (x .next))) (add-one value)
-            ∙ sym (value-later c this m em e value (values-from v (x .next)))
+            ∙ sym (value-later c this at ea e value (values-from v (x .next)))
             ∙ sym (ap (first-value (place-text false c) value) (said .list)) ∙ k .same;
         inside = said .next-inside;
         few = omega (arith, k .few, said .on);
@@ -105,20 +104,17 @@ module _ (c v : List ℕ) (p value : ℕ) (k : Seeking c v p value) where
 -- ---- a value that is not cut
 
 module _ (c v : List ℕ) (at : Place) (ea : at ≡ place-text false c v) where
-  here-met : at .found ≡ meets-text false c v
-  here-met = ap (λ (x : Place). x .found) ea ∙ place-meets false c v
-
   pub one-none : not (at .found) ≡ true → (x : Spot) → x ≡ no-spot → x ≡ values-spot c (v ∷ [])
   unfolding values-spot first-value
-  one-none h x ex = ex ∙ sym (value-later c v (at .found) here-met (not-true (at .found) h) 0 [])
+  one-none h x ex = ex ∙ sym (value-later c v at ea (not-true (at .found) h) 0 [])
 
   pub one-found : not (at .found) ≡ false
       → _≡_ {A = Spot} (record { found = true; value = 0; start = at .start; size = at .size }) (values-spot c (v ∷ []))
   unfolding values-spot
-  one-found h = value-here c v (at .found) here-met (not-false (at .found) h) at ea 0 []
+  one-found h = value-here c v at ea (not-false (at .found) h) 0 []
 
   pub one-low : length v ≤ 65535 → LowSpot (record { found = true; value = 0; start = at .start; size = at .size })
-  one-low short = low-here c v (at .found) here-met short at ea 0 (omega arith)
+  one-low short = low-here c v at ea short 0 (omega arith)
 
 -- ---- the values of a field, from its raw value reduced into the room
 

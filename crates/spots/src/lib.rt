@@ -69,7 +69,7 @@ pub fn none_shown() -> Shown
 
 // ---- one field
 
-// Among the values that a reduced value is cut into. The test tells which of them matches, and only that is looked through for the place.
+// Among the values that a reduced value is cut into.
 fn spot_in_pieces(
     v: &[u8],
     c: &[u8],
@@ -87,8 +87,8 @@ fn spot_in_pieces(
         let x = contents::next_value(v, p);
         let a = x.start;
         let e = x.end;
-        if pattern::test(shape, sets, before, &v[a..e]) {
-            let at = place::locate(shape, sets, before, &v[a..e]);
+        let at = place::locate(shape, sets, before, &v[a..e]);
+        if at.found {
             return Spot {
                 found: true,
                 value,

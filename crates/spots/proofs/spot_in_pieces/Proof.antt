@@ -18,18 +18,6 @@ loop-holds c = search seeking-first
 next-value-requires : tie.Need-next-value-requires Inv-loop μ-loop
 next-value-requires c κs = search needs
 
-sub-test : tie.Need-sub-test Inv-loop μ-loop
-sub-test c = search (needs, value-order)
-
-part-test-start : tie.Need-part-test-start Inv-loop μ-loop
-part-test-start c = search (needs, value-order)
-
-part-test-end : tie.Need-part-test-end Inv-loop μ-loop
-part-test-end c = search (needs, value-inside)
-
-test-requires : tie.Need-test-requires Inv-loop μ-loop
-test-requires c κs = search needs
-
 sub-locate : tie.Need-sub-locate Inv-loop μ-loop
 sub-locate c = search (needs, value-order)
 
@@ -43,7 +31,7 @@ locate-requires : tie.Need-locate-requires Inv-loop μ-loop
 locate-requires c κs = search needs
 
 returns : tie.Need-returns Inv-loop μ-loop
-returns c = (search (seeking-found, c .before .before .before .test .ensures, c .locate .ensures), search (seeking-low, c .before .before .before .test .ensures, c .locate .ensures))
+returns c = (search (seeking-found, c .before .locate .ensures), search (seeking-low, c .before .locate .ensures))
 
 add-value : tie.Need-add-value Inv-loop μ-loop
 add-value c = search (needs, value-room)
@@ -52,7 +40,7 @@ loop-less : tie.Need-loop-less Inv-loop μ-loop
 loop-less c = search value-less
 
 loop-again : tie.Need-loop-again Inv-loop μ-loop
-loop-again c = search (seeking-next, c .before .test .ensures)
+loop-again c = search (seeking-next, c .before .locate .ensures)
 
 no-spot-requires : tie.Need-no-spot-requires Inv-loop μ-loop
 no-spot-requires c κs = search needs
@@ -68,10 +56,6 @@ spot-in-pieces-spec =
     μ-loop
     loop-holds
     next-value-requires
-    sub-test
-    part-test-start
-    part-test-end
-    test-requires
     sub-locate
     part-locate-start
     part-locate-end
