@@ -9,9 +9,9 @@
 #include <stdio.h>
 #include <stdlib.h>
 #include <string.h>
-#include <time.h>
 #include "../examples/image.h"
 #include "../include/ifc.h"
+#include "clock.h"
 #include "peers.h"
 #include "plain.h"
 
@@ -147,26 +147,7 @@ static int by_pcre2(void) { return peer_advance(request, request_len, 0, PEER_PC
 static int by_re2(void) { return peer_advance(request, request_len, 0, PEER_RE2); }
 #endif
 
-/* ---- time: the processor's for this program, the best of several rounds */
-
-static double nanoseconds(void) {
-    struct timespec t;
-    clock_gettime(CLOCK_PROCESS_CPUTIME_ID, &t);
-    return (double)t.tv_sec * 1e9 + (double)t.tv_nsec;
-}
-
-static double once(int (*side)(void), uint32_t times) {
-    double from = nanoseconds();
-    for (uint32_t i = 0; i < times; i++) side();
-    return (nanoseconds() - from) / times;
-}
-
-/* So many times that a round takes some 10 ms. */
-static uint32_t times_for(int (*side)(void)) {
-    uint32_t times = 1;
-    while (times < 1u << 20 && once(side, times) * times < 1e7) times *= 2;
-    return times;
-}
+/* ---- side by side: the best of several rounds */
 
 static const struct {
     const char *name;

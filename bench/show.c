@@ -12,9 +12,9 @@
 #include <stdio.h>
 #include <stdlib.h>
 #include <string.h>
-#include <time.h>
 #include "../examples/image.h"
 #include "../include/ifc.h"
+#include "clock.h"
 
 static const char invite[] =
     "INVITE sip:+441632960123@ims.example.net;user=phone SIP/2.0\r\n"
@@ -119,23 +119,25 @@ static size_t build(uint32_t number, int form, uint8_t *to) {
 
 static uint32_t found;
 
-static void advance(const uint8_t *image, size_t image_len) {
+static int advance(const uint8_t *image, size_t image_len) {
     ifc_session session;
     ifc_answer answer;
     ifc_session_open(&session, IFC_ORIGINATING);
     if (ifc_session_advance(&session, image, image_len, request, request_len, &answer)) stop("an advance is refused");
+    return (int)answer.outcome;
 }
 
-static void show(uint32_t row) {
+static int show(uint32_t row) {
     uint32_t place, field, value, start, length;
     if (ifc_show(triggered, triggered_len, request, request_len, row, &place, &found, &field, &value, &start, &length))
         stop("a row is not shown");
+    return (int)found;
 }
 
-static void with_trigger(void) { advance(triggered, triggered_len); }
-static void without_trigger(void) { advance(untriggered, untriggered_len); }
-static void asked_row(void) { show(ASKED); }
-static void other_row(void) { show(OTHER); }
+static int with_trigger(void) { return advance(triggered, triggered_len); }
+static int without_trigger(void) { return advance(untriggered, untriggered_len); }
+static int asked_row(void) { return show(ASKED); }
+static int other_row(void) { return show(OTHER); }
 
 static void prepare(uint32_t number) {
     strcpy(dense, "^");
@@ -148,23 +150,10 @@ static void prepare(uint32_t number) {
     if (found != all[number].found) stop("another row is found than the bench is for");
 }
 
-/* ---- time: the processor's for this program, the best of several rounds */
+/* ---- side by side: the best of several rounds */
 
-static double nanoseconds(void) {
-    struct timespec t;
-    clock_gettime(CLOCK_PROCESS_CPUTIME_ID, &t);
-    return (double)t.tv_sec * 1e9 + (double)t.tv_nsec;
-}
-
-static double once(void (*side)(void), uint32_t times) {
-    double from = nanoseconds();
-    for (uint32_t i = 0; i < times; i++) side();
-    return (nanoseconds() - from) / times;
-}
-
-static double best(void (*side)(void)) {
-    uint32_t times = 1;
-    while (times < 1u << 20 && once(side, times) * times < 1e7) times *= 2;
+static double best(int (*side)(void)) {
+    uint32_t times = times_for(side);
     double least = once(side, times);
     for (int i = 0; i < 15; i++) {
         double t = once(side, times);
