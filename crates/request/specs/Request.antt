@@ -130,6 +130,11 @@ read-request s = do
   _ ← holds (bytes-right (c .before))
   read-head (head-lines (c .before)) (c .after)
 
+-- number 7, "request unreadable"; 0 of one that is read
+abbrev pub refusal-of : Option Request → ℕ
+refusal-of none = 7
+refusal-of (some q) = 0
+
 -- ---- whether the body is a session description (document 02, change request 5)
 
 -- "there is exactly one Content-Type field, with one value": by the fields of that name

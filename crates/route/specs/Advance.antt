@@ -9,7 +9,7 @@ use lib.Dec.{eqb}
 use Rattle.octets.specs.Lists.{pick, total, same}
 use Rattle.profile.specs.Image.{Criterion, Profile, Judged, accepted, refused}
 use Rattle.profile.specs.Judging.{judge}
-use Rattle.request.specs.Request.{Request, read-request}
+use Rattle.request.specs.Request.{Request, refusal-of, read-request}
 use Rattle.session.specs.Session.{ready, finished, possible, with-state, forwarded-to}
 use Rattle.session.specs.declared.Session.{Session}
 use Rattle.rows.specs.Rows.{REGISTER}
@@ -78,7 +78,7 @@ walk x p q = walk-with (criterion-fits q (in-session x) p) (criterion-trials q (
 
 -- the request, then its method
 abbrev pub advance-read : Session → Profile → Option Request → Advanced
-advance-read x p none = refuse x 7 0
+advance-read x p none = refuse x (refusal-of none) 0
 advance-read x p (some q) = pick (same (q .method) REGISTER) (refuse x 11 0) (walk x p q)
 
 -- "Each call judges the image lent to it"

@@ -13,7 +13,7 @@ use Rattle.place.specs.Place.{IsPlace, place-of}
 use Rattle.contents.specs.Body.{Line}
 use Rattle.profile.specs.Image.{Test, request-uri, method, header, session-case, description, Row, Profile, Judged, accepted, refused}
 use Rattle.profile.specs.Judging.{judge}
-use Rattle.request.specs.Request.{Request, Field, read-request, request-lines}
+use Rattle.request.specs.Request.{Request, refusal-of, Field, read-request, request-lines}
 use Rattle.spots.specs.Spots.{no-spot, bare-spot, none-shown, first-value, first-shown}
 use Rattle.spots.specs.declared.Shown.{Shown}
 use Rattle.spots.specs.declared.Spot.{Spot}
@@ -59,7 +59,7 @@ show-row q (some r) = answered (test-shown q (r .test))
 
 -- "after the image and request checks"
 abbrev pub show-read : Profile → Option Request → ℕ → Answer
-show-read p none k = refuse-show 7 0
+show-read p none k = refuse-show (refusal-of none) 0
 show-read p (some q) k = show-row q (getElem? (p .rows) k)
 
 abbrev pub show-judged : Judged → List ℕ → ℕ → Answer
