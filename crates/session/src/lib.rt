@@ -4,6 +4,7 @@ ghost use Rattle.session.specs.Session.{possible, with-state, forwarded-
 
 // Five numbers: case 0..3; state 0 ready, 1 waiting, 2 finished, 3 released, 4 ended; forwarded 1 if anything was, else 0; the
 // last priority; that criterion's default handling.
+#[repr(C)]
 pub struct Session {
     pub case: u32,
     pub state: u32,
