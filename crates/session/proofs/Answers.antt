@@ -1,6 +1,6 @@
 -- The laws by which the session's functions are proved, one for each answer.
 use mathlib.Core.Bool.{Bool, true, false, not, _&&_, _||_}
-use mathlib.Core.Path.{_≡_, sym, ap, _∙_}
+use mathlib.Core.Path.{_≡_, refl, sym, ap, _∙_}
 use Prim.Native.Nat.{ℕ, _≤_, _<_}
 use lib.Dec.{leb, eqb}
 use borrow.Author.Tests.{lt-leb, le-leb, lt-ltb, eq-eqb, ne-eqb, not-true, not-false}
@@ -45,7 +45,15 @@ opened-no k h = record { answer = rw (lt-leb k 3 h) }
 pub goes-on : (x : Session) (s : ℕ) (y : Session) → y ≡ with-state x s → record { refusal = 0; session = y } ≡ goes x s
 goes-on x s y e = ap (λ (z : Session). record { refusal = 0; session = z }) e
 
+and-false : (b : Bool) → (b && false) ≡ false
+and-false true = refl
+and-false false = refl
+
 -- a is the answer of the helper that the code calls
+pub not-waiting : (x : Session) (n : ℕ) (a : Reported) → a ≡ stays x 10 → (x .state ≡ 1 → ⊥) → Reports x n a
+unfolding report-session
+not-waiting x n a f k = record { answer = f ∙ rw (ne-eqb (x .state) 1 k, and-false (possible x)) }
+
 module _ (x : Session) (n : ℕ) (r : Bool) (e : r ≡ possible x) where
   pub no-such : (a : Reported) → a ≡ stays x 10 → not r ≡ true → Reports x n a
   unfolding report-session
@@ -54,10 +62,6 @@ module _ (x : Session) (n : ℕ) (r : Bool) (e : r ≡ possible x) where
   module _ (h : not r ≡ false) where
     is-possible : possible x ≡ true
     is-possible = sym e ∙ not-false r h
-
-    pub not-waiting : (a : Reported) → a ≡ stays x 10 → (x .state ≡ 1 → ⊥) → Reports x n a
-    unfolding report-session
-    not-waiting a f k = record { answer = f ∙ rw (is-possible, ne-eqb (x .state) 1 k) }
 
     module _ (w : x .state ≡ 1) where
       waits : after-report n x ≡ report-session x n

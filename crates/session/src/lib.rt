@@ -115,10 +115,10 @@ fn goes(x: Session, state: u32) -> Reported
 pub fn report(x: Session, news: u32) -> Reported
     ensures { λ r. ⌜ Reports x news r ⌝ }
 {
-    if !can_be(x) {
+    if x.state != 1 {
         return stays(x, 10);
     }
-    if x.state != 1 {
+    if !can_be(x) {
         return stays(x, 10);
     }
     if news == 0 {

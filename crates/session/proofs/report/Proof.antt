@@ -3,20 +3,20 @@ use borrow.Author.Needs.{needs}
 use Rattle.session.proofs.report.Statement.{statement}
 use Rattle.session.proofs.report.Tie as tie
 
-can-be-requires : tie.Need-can-be-requires
-can-be-requires c κs = search needs
-
 stays-requires : tie.Need-stays-requires
 stays-requires c κs = search needs
 
 returns : tie.Need-returns
-returns c = search no-such
+returns c = search not-waiting
+
+can-be-requires : tie.Need-can-be-requires
+can-be-requires c κs = search needs
 
 stays-requires-2 : tie.Need-stays-requires-2
 stays-requires-2 c κs = search needs
 
 returns-2 : tie.Need-returns-2
-returns-2 c = search not-waiting
+returns-2 c = search no-such
 
 goes-requires : tie.Need-goes-requires
 goes-requires c κs = search needs
@@ -52,9 +52,9 @@ pub report-spec : {M : Type 1} → statement M
 report-spec =
     tie.close
     (tie.spec
-    can-be-requires
     stays-requires
     returns
+    can-be-requires
     stays-requires-2
     returns-2
     goes-requires
