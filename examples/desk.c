@@ -131,9 +131,10 @@ static void advance(ifc_session *session, const char *name, ifc_answer *answer) 
     }
 }
 
+static const char *const states[] = {"ready", "waiting", "finished", "released", "ended"};
+
 static void report(ifc_session *session, uint32_t what) {
     static const char *const said[] = {"the server sent it back", "the server was not reached", "the server answered it"};
-    static const char *const states[] = {"ready", "waiting", "finished", "released", "ended"};
     if (ifc_session_report(session, what)) stop("a report was refused");
     printf("  %s: session %s\n", said[what], states[session->state]);
 }
@@ -163,6 +164,27 @@ static void call(const char *title, const char *first, const char *next, uint32_
         asked |= recorder;
     }
     printf("In plain words: %s.\n\n", in_plain_words(&session, &answer, asked, of_recorder));
+}
+
+/* The recorder goes down, and every session that was sent to it gets the news in one call. The last of these had its answer before. */
+static void outage(const char *title) {
+    enum { SENT = 3 };
+    static const char *const names[SENT] = {"invite.sip", "message.sip", "invite.sip"};
+    static const int handlings[SENT] = {HANDLING_TERMINATED, HANDLING_CONTINUED, HANDLING_TERMINATED};
+    ifc_session sessions[SENT];
+    ifc_answer answer;
+    uint32_t reports[SENT], refusals[SENT];
+    printf("%s\n", title);
+    for (int i = 0; i < SENT; i++) {
+        desk_profile(handlings[i]);
+        if (ifc_session_open(&sessions[i], IFC_ORIGINATING)) stop("no session");
+        advance(&sessions[i], names[i], &answer);
+        reports[i] = IFC_UNREACHABLE;
+    }
+    report(&sessions[2], IFC_FINAL_RESPONSE);
+    if (ifc_reports(sessions, SENT, reports, SENT, refusals, SENT)) stop("the reports are refused");
+    for (int i = 0; i < SENT; i++) printf("  session %d: refusal %u, %s\n", i, refusals[i], states[sessions[i].state]);
+    printf("\n");
 }
 
 /* One advance: whether the request has a session line m=audio. */
@@ -216,6 +238,7 @@ int main(int argc, char **argv) {
     desk_profile(HANDLING_CONTINUED);
     call("The call again; the recorder cannot be reached, its default handling is continued", "invite.sip", "invite.sip",
         IFC_UNREACHABLE);
+    outage("The recorder goes down; three sessions that were sent to it get the news at once");
     sound_profile();
     sound("The call, over a profile that asks for a session line m=audio alone", "invite.sip");
     sound("Over the same profile, a message with a presence document in which such a line stands", "presence.sip");

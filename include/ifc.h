@@ -19,14 +19,15 @@
  * What every call keeps to
  *
  * - It returns a refusal number, 0 for none. If several would apply, it is the first in this order: 10, 1 to 6 (the first fault
- *   of the image in reading order), 7, 11, 8, 9, 12; for a lookup 13 after the image, for ifc_show 13 after 7. A refusal names no
- *   server and no route: the host must not let the SIP call go on. The session may be tried again with what was wrong mended.
+ *   of the image in reading order), 7, 11, 8, 9, 12; for a lookup 13 after the image, for ifc_show 13 after 7, for ifc_reports 17
+ *   alone. A refusal names no server and no route: the host must not let the SIP call go on. The session may be tried again with
+ *   what was wrong mended.
  * - A lent number (uint32_t *) is written on every return. On a refusal it is 0, with two exceptions: `place`, where an image
  *   fault (1 to 6) stands, in bytes from the image's start (it may be 0: the number returned tells whether there is one); and a
- *   session's numbers, which hold what they held. Only ifc_open gives them new values on a refusal.
+ *   session's numbers, which hold what they held. Only ifc_open gives them new values on a refusal. In a list nothing is written then.
  * - Image and request are only read, and lent for the call: nothing points into them afterwards, and nobody may change them while it
- *   runs. They may be NULL if their length is 0, and so may the list. All other pointers must be valid and aligned. Lent numbers
- *   and the list overlap nothing else that is lent.
+ *   runs. They may be NULL if their length is 0, and so may a list. All other pointers must be valid and aligned. Lent numbers
+ *   and lists overlap nothing else that is lent.
  * - There is no global state. Any number of threads may call at once, also over one image; a session belongs to one thread at a
  *   time, as any variable does.
  * - Stack: at most 160 KB (163,840 bytes) for a call, measured.
@@ -48,8 +49,9 @@ extern "C" {
 
 /* Limits. */
 enum { IFC_IMAGE_MOST = 32768, IFC_REQUEST_MOST = 65535, IFC_CRITERIA_MOST = 64 };
+enum { IFC_REPORTS_MOST = 256 }; /* ifc_reports */
 
-/* Refusals, each with its line of document 01. */
+/* Refusals, each with its line of document 01, and 17 with that of change request 8. */
 enum {
     IFC_ACCEPTED = 0,
     IFC_IMAGE_TOO_LONG = 1,       /* image over 32,768 */
@@ -64,7 +66,8 @@ enum {
     IFC_WRONG_MOMENT = 10,        /* call at the wrong moment; numbers that no session can have */
     IFC_WRONG_METHOD = 11,        /* advance on REGISTER, listing on another method */
     IFC_TOO_FEW_PLACES = 12,      /* more fitting criteria than places */
-    IFC_NO_SUCH_CRITERION = 13    /* no such criterion; for ifc_show: no such row */
+    IFC_NO_SUCH_CRITERION = 13,   /* no such criterion; for ifc_show: no such row */
+    IFC_LENGTHS = 17              /* ifc_reports: lengths that differ or exceed 256 */
 };
 
 /* Session cases, as 3GPP's Cx interface numbers them. */
@@ -99,6 +102,17 @@ enum {
     IFC_UNREACHABLE = 1,   /* the server was not reached: go on if the default is continued, else the session is released */
     IFC_FINAL_RESPONSE = 2 /* the server answered finally: the session has ended */
 };
+
+/* ---- the session */
+
+/* A session's five numbers. Copy, store and send them as you like; the library keeps nothing. */
+typedef struct ifc_session {
+    uint32_t session_case; /* 0 to 3 */
+    uint32_t state;        /* IFC_READY to IFC_ENDED */
+    uint32_t forwarded;    /* 1 if anything was forwarded, else 0 */
+    uint32_t last;         /* priority of the last criterion forwarded, 0 if none */
+    uint32_t handling;     /* its default handling, 0 if none */
+} ifc_session;
 
 /* ---- the calls */
 
@@ -170,16 +184,21 @@ uint32_t ifc_information(const uint8_t *image, size_t image_len, uint32_t criter
 uint32_t ifc_show(const uint8_t *image, size_t image_len, const uint8_t *request, size_t request_len, uint32_t row,
     uint32_t *place, uint32_t *found, uint32_t *field, uint32_t *value, uint32_t *start, uint32_t *length);
 
-/* ---- for convenience: the same calls over two structs. They only pass addresses. */
+/* ifc_report for each session of a list (since change request 8): a server goes down, and hundreds of sessions that wait for it get
+ * the same news, or each its own. Gather the sessions in an array, at most IFC_REPORTS_MOST of them, with a report for each and a
+ * place for each refusal number; copy the sessions back from there, or keep them there. Lengths are counts of entries, not bytes.
+ *
+ * refusals[i] gets the number that ifc_report gives for sessions[i] and reports[i], 0 for none, and sessions[i].state is as that call
+ * leaves it; every other number of every session stays. A session that is refused stays as it is, and those behind it get their report
+ * all the same: look at each number, not at the call's alone. Where a session stands in the list makes no difference. From some
+ * sixteen sessions on it costs less than so many single calls.
+ *
+ * It returns 0 also where single reports were refused, and for three empty lists. Refused with 17 (lengths that differ, or above 256):
+ * no list is touched. */
+uint32_t ifc_reports(struct ifc_session *sessions, size_t sessions_len, const uint32_t *reports, size_t reports_len,
+    uint32_t *refusals, size_t refusals_len);
 
-/* A session's five numbers. Copy, store and send them as you like; the library keeps nothing. */
-typedef struct ifc_session {
-    uint32_t session_case; /* 0 to 3 */
-    uint32_t state;        /* IFC_READY to IFC_ENDED */
-    uint32_t forwarded;    /* 1 if anything was forwarded, else 0 */
-    uint32_t last;         /* priority of the last criterion forwarded, 0 if none */
-    uint32_t handling;     /* its default handling, 0 if none */
-} ifc_session;
+/* ---- for convenience: the same calls over two structs. They only pass addresses. */
 
 /* What an advance answers. */
 typedef struct ifc_answer {

@@ -1,6 +1,6 @@
 """believe.py: what a reader must believe, and how much it is.
 
-The definitions that an exported contract (ifc Exports) or a statement of Main or Details reaches stand in crates/CRATE/specs/*.antt;
+The definitions that an exported contract (crates/ifc/src/lib.rt) or a statement of Main or Details reaches stand in crates/CRATE/specs/*.antt;
 forms that only contracts between our crates cite stand in crates/CRATE/specs/Inner/. This test fails if a reader's file brings in an
 inner one, if one is reached from neither, or if docs/STATEMENTS.md, "Reading order", does not have each with its count of lines: those
 that are neither empty nor a comment nor a use line. The table of inner forms of docs/DECISIONS.md has every inner file, each with a law
@@ -11,7 +11,7 @@ import re
 import sys
 
 os.chdir(os.path.join(os.path.dirname(os.path.abspath(__file__)), ".."))
-USE = re.compile(r"^use Rattle·(\w+)(?:·\w+\.\w+|\.\w+)\.((?:Inner\.)?\w+)", re.M)
+USE = re.compile(r"^(?:ghost )?use Rattle·(\w+)(?:·\w+\.\w+|\.\w+)\.((?:Inner\.)?\w+)", re.M)
 PAGES = ["crates/promises/proofs/Main.antt", "crates/promises/proofs/Details.antt"]
 wrong = []
 
@@ -47,7 +47,7 @@ files = {p for p in glob.glob("crates/*/specs/*.antt") if reader(p)}
 for path in sorted(files):
     for inner in sorted(p for p in brought(path) if "/Inner/" in p):
         wrong.append(f"{path} brings in {inner}")
-exported = {p for p in reached(["crates/ifc/specs/Exports.antt"]) if "/specs/" in p}
+exported = {p for p in reached(["crates/ifc/src/lib.rt"]) if "/specs/" in p}
 statements = {p for page in PAGES for p in brought(page) if p in files}
 stated = reached(statements) - exported
 for path in sorted(files - exported - stated):

@@ -1,13 +1,14 @@
 /* cases CASES ANSWERS: runs a case file of the second program through the library, and writes what it answered to ANSWERS, for
  * `second compare CASES ANSWERS`.
  *
- * Each case is run twice: image, request and list each end where an inaccessible page begins, then each begins where one ends. A
- * byte read or written outside stops the program; so do two answers that differ, and an image or request that was changed. */
+ * Each case is run twice: image, request and list (of reports in bulk the three lists) each end where an inaccessible page begins,
+ * then each begins where one ends. A byte read or written outside stops the program; so do two answers that differ, and an image,
+ * request or list of reports that was changed. */
 #include "lent.h"
 #include "../include/ifc.h"
 
-enum { MOST = 16 };
-enum { CHECK, OPEN, ADVANCE, REPORT, LIST, SERVER, INFORMATION, SHOW };
+enum { MOST = 16, RECORD = 5 }; /* numbers of a case but its lists; numbers of a session */
+enum { CHECK, OPEN, ADVANCE, REPORT, LIST, SERVER, INFORMATION, SHOW, REPORTS };
 
 static void put_bytes(FILE *out, const struct bytes *from) {
     put(out, from->length);
@@ -64,13 +65,49 @@ static uint32_t call(const struct one *c, const struct lent *at, uint32_t *n) {
     }
 }
 
+/* ---- reports in bulk: numbers of 4 bytes, big-endian, stand in the case's request and list */
+
+static void unpack(uint32_t *to, const uint8_t *from, size_t count) {
+    for (size_t i = 0; i < count; i++, from += 4)
+        to[i] = (uint32_t)from[0] << 24 | (uint32_t)from[1] << 16 | (uint32_t)from[2] << 8 | from[3];
+}
+
+static void pack(uint8_t *to, const uint32_t *from, size_t count) {
+    for (size_t i = 0; i < count; i++)
+        for (int k = 0; k < 4; k++) *to++ = (uint8_t)(from[i] >> (24 - 8 * k));
+}
+
+/* So many numbers at the end of a room, or at its start. */
+static uint32_t *numbers_at(uint8_t *room, size_t count, int end) {
+    return (uint32_t *)(void *)(end ? room + ROOM - 4 * count : room);
+}
+
+static uint32_t run_reports(const struct one *c, const struct lent *rooms, int end, struct bytes *list) {
+    size_t sessions_len = c->n[0], reports_len = c->n[1], refusals_len = c->n[2];
+    uint32_t *records = numbers_at(rooms->image, RECORD * sessions_len, end), *reports = numbers_at(rooms->request, reports_len, end),
+             *refusals = numbers_at(rooms->list, refusals_len, end);
+    static uint32_t before[ROOM / 4];
+    if (c->request.length != 4 * reports_len || c->list.length != 4 * (RECORD * sessions_len + refusals_len)) stop("lists of other lengths");
+    unpack(records, c->list.at, RECORD * sessions_len);
+    unpack(refusals, c->list.at + 4 * RECORD * sessions_len, refusals_len);
+    unpack(reports, c->request.at, reports_len);
+    memcpy(before, reports, 4 * reports_len);
+    uint32_t refusal = ifc_reports((ifc_session *)(void *)records, sessions_len, reports, reports_len, refusals, refusals_len);
+    if (memcmp(before, reports, 4 * reports_len)) stop("what was lent to be read was changed");
+    list->length = c->list.length;
+    pack(list->at, records, RECORD * sessions_len);
+    pack(list->at + 4 * RECORD * sessions_len, refusals, refusals_len);
+    return refusal;
+}
+
 static int changed(const uint8_t *at, const struct bytes *part) { return memcmp(at, part->at, part->length) != 0; }
 
 /* Runs a case at one end of the rooms; the answer's numbers are left in n, its list in `list`. */
 static uint32_t run(const struct one *c, const struct lent *rooms, int end, uint32_t *n, struct bytes *list) {
+    memcpy(n, c->n, sizeof c->n);
+    if (c->call == REPORTS) return run_reports(c, rooms, end, list);
     struct lent at = {lend(rooms->image, &c->image, end), lend(rooms->request, &c->request, end),
         lend(rooms->list, &c->list, end)};
-    memcpy(n, c->n, sizeof c->n);
     uint32_t refusal = call(c, &at, n);
     if (changed(at.image, &c->image) || changed(at.request, &c->request)) stop("what was lent to be read was changed");
     list->length = c->list.length;

@@ -1,8 +1,8 @@
 #!/bin/sh
-# What docs/STATEMENTS.md names exists, and its reading order is that of the files. The library from C: the header, the archive's names, what is installed, document 01's worked
-# images and its marked trigger, what is shown of a row, the examples, requests from the wire, threads, stack, garbage; then the fixed
-# cases of the second program and COUNT random ones from SEED. Patterns from C, on three times as many blocks of lines; and the reading
-# of requests, with the end of the head at every place, and on 50,000 random ones.
+# What docs/STATEMENTS.md names exists, and its reading order is that of the files. The library from C: the header, the archive's names,
+# what is installed, document 01's worked images and its marked trigger, what is shown of a row, reports in bulk, the examples, requests
+# from the wire, threads, stack, garbage; then the fixed cases of the second program and COUNT random ones from SEED. Patterns from C, on three times as many blocks of lines;
+# and the reading of requests, with the end of the head at every place, and on 50,000 random ones.
 # check.sh [SEED COUNT]
 set -eu
 cd "$(dirname "$0")/.."
@@ -39,7 +39,7 @@ build worked tests/worked.c "$lib"
 run worked
 sh tests/examples.sh "$out" "$lib"
 sh tests/sip.sh "$lib"
-for name in marked shown threads stack garbage; do
+for name in marked shown reports threads stack garbage; do
     build "$name" "tests/$name.c" "$lib"
     run "$name"
 done

@@ -181,6 +181,34 @@ static void report(void) {
     must(same_session(&session, &before), "a report changed more than the state, or was refused and changed it");
 }
 
+/* Lists of sessions that no session may be, mostly of equal length; each lies against an inaccessible page. */
+static uint8_t *bulk_rooms[3];
+static uint32_t bulk_taken, bulk_refused;
+
+static void *bulk_list(int which, size_t bytes, int end) { return end ? bulk_rooms[which] + ROOM - bytes : bulk_rooms[which]; }
+
+static void report_all(void) {
+    static ifc_session before[300];
+    ifc_session kept = session;
+    size_t n = draw(4) ? draw(6) : 250 + draw(10), m = draw(8) ? n : draw(6), k = draw(8) ? n : draw(6);
+    int end = (int)draw(2);
+    ifc_session *sessions = bulk_list(0, n * sizeof *sessions, end);
+    uint32_t *reports = bulk_list(1, 4 * m, end), *numbers = bulk_list(2, 4 * k, end), refusal;
+    for (size_t i = 0; i < n; i++) wild_session(), sessions[i] = before[i] = session;
+    for (size_t i = 0; i < m; i++) reports[i] = draw_number(4);
+    for (size_t i = 0; i < k; i++) numbers[i] = 7;
+    session = kept;
+    refusal = ifc_reports(n ? sessions : NULL, n, m ? reports : NULL, m, k ? numbers : NULL, k);
+    must(refusal == (n == m && n == k && n <= 256 ? 0 : 17), "lengths are judged wrongly");
+    for (size_t i = 0; i < n; i++) {
+        if (!refusal) must(numbers[i] == 0 || numbers[i] == 8 || numbers[i] == 10, "a refusal that a report does not give");
+        if (!refusal && !numbers[i]) before[i].state = sessions[i].state;
+        must(same_session(&sessions[i], &before[i]), "a session was changed");
+    }
+    for (size_t i = 0; refusal && i < k; i++) must(numbers[i] == 7, "a refused call wrote to the numbers");
+    refusal ? bulk_refused++ : bulk_taken++;
+}
+
 static void list_all(void) {
     uint32_t place = 7, count = 7, examined = 7, trials = 7, refusal;
     uint64_t told = 0;
@@ -242,13 +270,14 @@ int main(int argc, char **argv) {
     uint32_t count = argc > 2 ? (uint32_t)strtoul(argv[2], NULL, 10) : 20000;
     if (argc > 1) seed = strtoul(argv[1], NULL, 10) * 2 + 1;
     image.room = room(), request.room = room(), list.room = room();
+    for (int i = 0; i < 3; i++) bulk_rooms[i] = room();
     ifc_session_open(&session, 0);
     draw_image(), draw_request(), draw_list();
     for (call_number = 0; call_number < count; call_number++) {
         if (draw(4) == 0) draw_image();
         if (draw(3) == 0) draw_request();
         if (session.state > IFC_WAITING && draw(2)) open_one();
-        switch (draw(16)) {
+        switch (draw(17)) {
         case 0: check(); break;
         case 1: open_one(); break;
         case 2: wild_session(); break;
@@ -256,11 +285,14 @@ int main(int argc, char **argv) {
         case 5: show(); break;
         case 6: case 7: case 8: draw_list(), list_all(); break;
         case 9: case 10: case 11: report(); break;
+        case 12: report_all(); break;
         default: advance();
         }
     }
     for (int i = 0; i < 14; i++) must(refusals[i] > 0, "some refusal was never seen: more calls are needed");
     must(forwards > 0 && routes > 0 && listed > 0 && shown > 0, "some answer was never seen: more calls are needed");
-    printf("garbage: ok (%u calls, %u forwards, %u routes, %u listed, %u shown)\n", count, forwards, routes, listed, shown);
+    must(bulk_taken > 0 && bulk_refused > 0, "no lists were taken, or none refused: more calls are needed");
+    printf("garbage: ok (%u calls, %u forwards, %u routes, %u listed, %u shown, %u lists of reports)\n", count, forwards, routes, listed,
+        shown, bulk_taken);
     return 0;
 }

@@ -17,6 +17,7 @@ number (*list)(bytes, size_t, bytes, size_t, number, number, uint8_t *, size_t, 
 number (*server)(bytes, size_t, number, lent, lent, lent) = ifc_server;
 number (*information)(bytes, size_t, number, lent, lent, lent, lent) = ifc_information;
 number (*show)(bytes, size_t, bytes, size_t, number, lent, lent, lent, lent, lent, lent) = ifc_show;
+number (*reports_in_bulk)(struct ifc_session *, size_t, const number *, size_t, lent, size_t) = ifc_reports;
 
 number (*session_open)(ifc_session *, number) = ifc_session_open;
 number (*session_advance)(ifc_session *, bytes, size_t, bytes, size_t, ifc_answer *) = ifc_session_advance;
@@ -25,7 +26,8 @@ number (*session_report)(ifc_session *, number) = ifc_session_report;
 /* NAME does not compile unless what it says holds. */
 #define HOLDS(name, what) typedef char name[(what) ? 1 : -1]
 
-/* A session is its five numbers and an answer its six, in this order, with nothing between. */
+/* A session is its five numbers and an answer its six, in this order, with nothing between. ifc_reports walks a list of sessions: the
+ * record of crates/session is `#[repr(C)]` with these five, which nothing but this and tests/reports.c holds to the struct here. */
 #define STANDS(type, member, place) HOLDS(type##_##member, offsetof(type, member) == 4 * (place))
 HOLDS(session_is_five_numbers, sizeof(ifc_session) == 20);
 STANDS(ifc_session, session_case, 0);
@@ -43,6 +45,9 @@ STANDS(ifc_answer, trials, 5);
 
 /* "At most 32,768 bytes"; "at most 65,535 bytes"; "criteria (0..64)" */
 HOLDS(limits, IFC_IMAGE_MOST == 32768 && IFC_REQUEST_MOST == 65535 && IFC_CRITERIA_MOST == 64);
+
+/* "a lent list of up to 256 sessions"; "17 for lengths that differ or exceed 256" (change request 8) */
+HOLDS(in_bulk, IFC_REPORTS_MOST == 256 && IFC_LENGTHS == 17);
 
 /* "Refusal numbers" */
 HOLDS(of_images, IFC_ACCEPTED == 0 && IFC_IMAGE_TOO_LONG == 1 && IFC_IMAGE_CUT == 2 && IFC_IMAGE_NOT_AT_END == 3 &&

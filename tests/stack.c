@@ -123,6 +123,9 @@ static void report(void) { refusal = ifc_session_report(&session, IFC_RETURNED);
 static void server(void) { refusal = ifc_server(image, image_len, 63, &n[0], &n[1], &n[2]); }
 static void information(void) { refusal = ifc_information(image, image_len, 63, &n[0], &n[1], &n[2], &n[3]); }
 static void show(void) { refusal = ifc_show(image, image_len, request, request_len, row, &n[0], &n[1], &n[2], &n[3], &n[4], &n[5]); }
+static ifc_session sessions[IFC_REPORTS_MOST];
+static uint32_t reports[IFC_REPORTS_MOST], refusals[IFC_REPORTS_MOST];
+static void report_all(void) { refusal = ifc_reports(sessions, IFC_REPORTS_MOST, reports, IFC_REPORTS_MOST, refusals, IFC_REPORTS_MOST); }
 static void list_all(void) {
     refusal = ifc_list(image, image_len, request, request_len, 1, 0, list, sizeof list, &n[0], &n[1], &n[2], &n[3]);
 }
@@ -191,6 +194,7 @@ int main(void) {
     tell("ifc_open", open_one, 0);
     session = (ifc_session){.session_case = 1, .state = IFC_WAITING, .forwarded = 1, .last = 64};
     tell("ifc_report", report, 0);
+    tell("ifc_reports, 256 sessions", report_all, 0);
     tell("ifc_server", server, 0);
     tell("ifc_information", information, 0);
     for (size_t i = 0; i < sizeof worst / sizeof worst[0]; i++) {

@@ -18,6 +18,8 @@ struct walk {
     uint32_t listed[4][3][5];
     uint8_t lists[4][3][16];
     uint32_t shown[16][7];
+    ifc_session reported[4];
+    uint32_t numbers[5];
 };
 
 static uint8_t image[IMAGE_MOST];
@@ -25,7 +27,7 @@ static size_t image_len;
 static uint8_t requests[SAMPLE_REQUESTS][SAMPLE_ROOM];
 static size_t lengths[SAMPLE_REQUESTS];
 static struct walk alone[SAMPLE_REQUESTS];
-static uint32_t forwards, listings, shows;
+static uint32_t forwards, listings, shows, reported;
 
 static void walk(uint32_t variant, struct walk *w) {
     const uint8_t *request = requests[variant];
@@ -47,6 +49,10 @@ static void walk(uint32_t variant, struct walk *w) {
             n[0] = ifc_list(image, image_len, request, length, c, type, list, 16, &n[1], &n[2], &n[3], &n[4]);
         }
     }
+    /* the first sessions of the four cases, as they came from their first advance, reported on in one call */
+    uint32_t reports[4];
+    for (uint32_t c = 0; c < 4; c++) w->reported[c] = w->sessions[c][0], reports[c] = (variant + c) % 4;
+    w->numbers[4] = ifc_reports(w->reported, 4, reports, 4, w->numbers, 4);
     for (uint32_t row = variant % 4; row < 16; row += 4) {
         uint32_t *n = w->shown[row];
         n[0] = ifc_show(image, image_len, request, length, row, &n[1], &n[2], &n[3], &n[4], &n[5], &n[6]);
@@ -78,9 +84,10 @@ int main(void) {
             for (int type = 0; type < 3; type++) listings += alone[i].listed[c][type][2];
         }
         for (int row = 0; row < 16; row++) shows += alone[i].shown[row][2];
+        for (int c = 0; c < 4; c++) reported += alone[i].numbers[c] == 0;
     }
-    if (forwards < 1000 || listings < 1000 || shows < 500) {
-        printf("threads: the sample leads nowhere (%u forwards, %u listed, %u shown)\n", forwards, listings, shows);
+    if (forwards < 1000 || listings < 1000 || shows < 500 || reported < 500) {
+        printf("threads: the sample leads nowhere (%u forwards, %u listed, %u shown, %u reported)\n", forwards, listings, shows, reported);
         return 1;
     }
     for (uintptr_t i = 0; i < THREADS; i++)
@@ -97,7 +104,7 @@ int main(void) {
         printf("threads: %lu walks differ from those of one thread\n", (unsigned long)wrong);
         return 1;
     }
-    printf("threads: ok (%d at once, %d walks each, %u forwards, %u listed, %u shown)\n", THREADS, ROUNDS * SAMPLE_REQUESTS, forwards,
-        listings, shows);
+    printf("threads: ok (%d at once, %d walks each, %u forwards, %u listed, %u shown, %u reported in bulk)\n", THREADS,
+        ROUNDS * SAMPLE_REQUESTS, forwards, listings, shows, reported);
     return 0;
 }

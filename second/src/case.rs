@@ -1,5 +1,6 @@
 //! A case is one call with all its inputs; an answer is everything the call hands back.
 
+use crate::bulk;
 use crate::calls;
 use crate::place::Place;
 use crate::profile::Fault;
@@ -17,9 +18,10 @@ pub enum Call {
     Server,
     Information,
     Show,
+    Reports,
 }
 
-pub const CALLS: [Call; 8] = [
+pub const CALLS: [Call; 9] = [
     Call::Check,
     Call::Open,
     Call::Advance,
@@ -28,6 +30,7 @@ pub const CALLS: [Call; 8] = [
     Call::Server,
     Call::Information,
     Call::Show,
+    Call::Reports,
 ];
 
 impl Call {
@@ -54,6 +57,7 @@ impl Call {
             Call::Server => &["criterion", "*place", "*start", "*length"],
             Call::Information => &["criterion", "*place", "*present", "*start", "*length"],
             Call::Show => &["row", "*place", "*found", "*field", "*value", "*start", "*length"],
+            Call::Reports => &["sessions_len", "reports_len", "refusals_len"],
         }
     }
 }
@@ -64,8 +68,9 @@ pub struct Case {
     /// For the reader of a difference.
     pub label: String,
     pub image: Vec<u8>,
+    /// Of reports in bulk, the list of reports as written by `in_bytes`.
     pub request: Vec<u8>,
-    /// The lent list before the call.
+    /// The lent list before the call; of reports in bulk both lists, the sessions and then the refusal numbers.
     pub list: Vec<u8>,
     /// Every number parameter before the call, lent ones with what they hold.
     pub numbers: Vec<u32>,
@@ -91,6 +96,7 @@ pub fn answer(case: &Case) -> Answer {
         Call::Server => server(case, &mut numbers),
         Call::Information => information(case, &mut numbers),
         Call::Show => show(case, &mut numbers),
+        Call::Reports => reports(case, &mut list),
     };
     Answer { number, list, numbers }
 }
@@ -250,4 +256,35 @@ fn show(case: &Case, numbers: &mut [u32]) -> u32 {
             fault.number
         }
     }
+}
+
+/// Numbers as the files have them: 4 bytes each, big-endian.
+pub fn in_bytes(numbers: &[u32]) -> Vec<u8> {
+    numbers.iter().flat_map(|number| number.to_be_bytes()).collect()
+}
+
+fn in_numbers(bytes: &[u8]) -> Vec<u32> {
+    bytes
+        .chunks_exact(4)
+        .map(|four| four.iter().fold(0, |number, &byte| number << 8 | u32::from(byte)))
+        .collect()
+}
+
+/// Numbers of a session.
+pub const RECORD: usize = 5;
+
+/// A session's numbers, in the order of the C struct.
+pub fn record_of(session: &Session) -> [u32; RECORD] {
+    let [state, forwarded, last, handling] = rest_of(*session);
+    [session.case, state, forwarded, last, handling]
+}
+
+fn reports(case: &Case, list: &mut Vec<u8>) -> u32 {
+    let (sessions, refusals) = list.split_at(4 * RECORD * case.numbers[0] as usize);
+    let mut sessions: Vec<Session> = in_numbers(sessions).chunks_exact(RECORD).map(session_of).collect();
+    let mut refusals = in_numbers(refusals);
+    let number = bulk::report_all(&mut sessions, &in_numbers(&case.request), &mut refusals);
+    let sessions: Vec<u32> = sessions.iter().flat_map(record_of).collect();
+    *list = in_bytes(&[sessions, refusals].concat());
+    number
 }

@@ -1,6 +1,6 @@
 //! Case files and answer files; README.md has both formats.
 
-use crate::case::{Answer, Case, CALLS};
+use crate::case::{Answer, Call, Case, CALLS, RECORD};
 use std::io::{self, Read, Write};
 
 const CASES_MARK: &[u8; 4] = b"IFCC";
@@ -110,10 +110,18 @@ fn read_case(source: &mut Source) -> Parsed<Case> {
         list: source.bytes()?,
         numbers: source.numbers()?,
     };
-    match case.numbers.len() == case.call.numbers().len() {
-        true => Ok(case),
-        false => Err(format!("case {}: {} numbers", case.label, case.numbers.len())),
+    if case.numbers.len() != case.call.numbers().len() {
+        return Err(format!("case {}: {} numbers", case.label, case.numbers.len()));
     }
+    match case.call == Call::Reports && !lists_are_whole(&case) {
+        true => Err(format!("case {}: lists of other lengths than its numbers say", case.label)),
+        false => Ok(case),
+    }
+}
+
+fn lists_are_whole(case: &Case) -> bool {
+    let [sessions, reports, refusals] = [0, 1, 2].map(|place| case.numbers[place] as usize);
+    case.request.len() == 4 * reports && case.list.len() == 4 * (RECORD * sessions + refusals)
 }
 
 pub fn read_answers(file: &mut impl Read) -> Parsed<Vec<Answer>> {

@@ -1,6 +1,7 @@
 //! The second program: answers the calls of document 01, makes cases, and compares.
 
 pub mod bracket;
+pub mod bulk;
 pub mod calls;
 pub mod case;
 pub mod criterion;

@@ -22,7 +22,7 @@ fn hex(bytes: &[u8]) -> String {
 
 pub fn case(number: usize, case: &Case) -> String {
     let mut out = format!("case {number}: {:?}: {}\n", case.call, case.label);
-    if !matches!(case.call, Call::Open | Call::Report) {
+    if !matches!(case.call, Call::Open | Call::Report | Call::Reports) {
         out += &format!("image {}\n", hex(&case.image));
         out += &match image::read(&case.image) {
             Ok(profile) => contents(&case.image, &profile),
@@ -32,7 +32,10 @@ pub fn case(number: usize, case: &Case) -> String {
     if matches!(case.call, Call::Advance | Call::List | Call::Show) {
         out += &format!("request {}\n", text(&case.request));
     }
-    if case.call == Call::List {
+    if case.call == Call::Reports {
+        out += &format!("reports {}\n", hex(&case.request));
+    }
+    if matches!(case.call, Call::List | Call::Reports) {
         out += &format!("list before {}\n", hex(&case.list));
     }
     out += &format!("numbers before{}\n", named(case, &case.numbers));

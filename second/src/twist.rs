@@ -410,6 +410,23 @@ twists! {
     ShownLengthAsByte: "a length's last byte is answered",
     RefusedShowWritesNothing: "a refused show writes nothing",
     NothingShownWritesNothing: "a show of none writes nothing",
+    // Reports in bulk
+    BulkEmptyRefused: "B1: empty lists are refused with 17",
+    Bulk257Taken: "B2: 257 of each are taken",
+    Bulk256Refused: "B2: 256 of each are refused with 17",
+    BulkAnswersFirstRefusal: "B3: the call answers the first single refusal",
+    BulkStopsAtRefusal: "B3: after a single refusal the others get no report",
+    BulkReportAsByte: "B4: a report's last byte is taken",
+    BulkReportAs16Bits: "B4: a report's last two bytes are taken",
+    BulkShortestTaken: "of lists that differ in length the first places are taken",
+    BulkMoreRefusalsTaken: "a longer list for the refusal numbers is taken",
+    BulkMoreReportsTaken: "a longer list of reports is taken",
+    BulkRefusedWrites: "number 17 is written to the refusal numbers",
+    BulkFirstReportForAll: "the first report is every session's",
+    BulkRefusedEnds: "a session whose report is refused ends",
+    BulkForgetsLast: "a report in bulk forgets the last priority",
+    BulkZeroUnwritten: "a number 0 is not written",
+    BulkLastLeftOut: "the last session is left out",
 }
 
 #[cfg(not(feature = "twists"))]

@@ -1,6 +1,6 @@
 //! What the made cases must hold: every limit, every number, every point, enough forwards.
 
-use second::case::{answer, Call, Case};
+use second::case::{answer, Call, Case, RECORD};
 use second::files;
 use second::maker::{self, random::Random};
 use second::request::name::SHORT;
@@ -103,6 +103,29 @@ fn random_shows_find() {
     assert!(registers.filter(|(_, numbers)| numbers[2] == 1).count() > 50);
 }
 
+/// Random reports in bulk: most are taken, some have lists that differ or are too long, and single ones are refused with 8 and 10.
+#[test]
+fn random_reports_are_mixed() {
+    let cases = maker::bulks::random(19, 5_000);
+    assert!(cases.iter().all(|case| case.call == Call::Reports));
+    let refused = cases.iter().filter(|case| answer(case).number == 17);
+    let (long, other): (Vec<&Case>, Vec<&Case>) =
+        refused.partition(|case| case.numbers.iter().all(|&length| length > 256));
+    assert!(
+        long.len() > 50 && other.len() > 100 && long.len() + other.len() < 1_000,
+        "{} and {}",
+        long.len(),
+        other.len()
+    );
+    let mut seen = [0; 11];
+    for case in cases.iter().filter(|case| answer(case).number == 0) {
+        for number in answer(case).list[4 * RECORD * case.numbers[0] as usize..].chunks_exact(4) {
+            seen[number[3] as usize] += 1;
+        }
+    }
+    assert!(seen[0] > 10_000 && seen[8] > 1_000 && seen[10] > 1_000, "{seen:?}");
+}
+
 /// Walks go further than one forward, and lists are longer than one.
 #[test]
 fn walks_and_lists_are_long() {
@@ -127,6 +150,7 @@ fn every_number_of_every_call() {
         (Call::Server, [&image[..], &[13]].concat()),
         (Call::Information, [&image[..], &[13]].concat()),
         (Call::Show, [&image[..], &[7, 13]].concat()),
+        (Call::Reports, vec![0, 17]),
     ];
     let expected: BTreeSet<(u32, u32)> = expected
         .iter()
@@ -143,7 +167,8 @@ fn few_of_every_kind() {
     };
     // As in kept.sh.
     let few = maker::few::few(1, 4_000, 40, 1_000);
-    let run: Vec<Case> = maker::fixed().into_iter().filter(|case| case.call != Call::Show).collect();
+    let runs = |case: &Case| !matches!(case.call, Call::Show | Call::Reports);
+    let run: Vec<Case> = maker::fixed().into_iter().filter(runs).collect();
     assert_eq!(told(&few), told(&run));
     let advances = few.iter().filter(|case| case.call == Call::Advance);
     let outcomes: Vec<u32> = advances.map(|case| answer(case).numbers[6]).collect();

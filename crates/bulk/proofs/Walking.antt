@@ -1,14 +1,14 @@
 -- The two lists after some rounds of the walk: their lengths, one round more, and all of them.
 use mathlib.Core.Bool.{Bool, true, false, _&&_}
 use mathlib.Core.List.{List, [], _∷_, map}
-use mathlib.Core.Path.{_≡_, refl, ap, subst, subst⁻¹, sym, _∙_}
+use mathlib.Core.Path.{_≡_, refl, ap, subst, subst⁻¹, _∙_}
 use Prim.Native.Nat.{ℕ, zero, suc, _<_}
 use native.Mathlib.Nat.{le-of-suc-le-suc, not-suc-le-zero}
 use native.Mathlib.Omega.{arith}
-use lib.Dec.{eqb, leb}
+use lib.Dec.{eqb, leb, eqb→eq}
 use lib.ListN.{length, getD, set}
-use borrow.Author.Tests.{eqb-true}
 use Rattle.octets.specs.Lists.{pick}
+use Rattle.octets.proofs.Tests.{T-of, left, right}
 use Rattle.session.specs.Session.{report-session}
 use Rattle.session.specs.declared.Session.{Session}
 use Rattle.session.specs.declared.Reported.{Reported}
@@ -80,17 +80,11 @@ refusals-next i xs ns before d h k l =
 abbrev pub rounds-of : List Session → List ℕ → List ℕ → ℕ
 rounds-of xs ns before = pick (fits (length xs) (length ns) (length before)) (length xs) 0
 
-both : (s t : Bool) → (s && t) ≡ true → (s ≡ true) × (t ≡ true)
-both true t e = (refl, e)
-both false true e = (e, refl)
-both false false e = (e, e)
-
 -- lengths that fit are equal
-equal-lengths : (a b c : ℕ) → fits a b c ≡ true → (a ≡ b) × (a ≡ c)
+pub equal-lengths : (a b c : ℕ) → fits a b c ≡ true → (a ≡ b) × (a ≡ c)
 equal-lengths a b c e =
-    let p = both (eqb a b && eqb a c) (leb a 256) e in
-    let q = both (eqb a b) (eqb a c) (p .0) in
-    (eqb-true a b (q .0), eqb-true a c (q .1))
+    let two = left (eqb a b && eqb a c) (leb a 256) (T-of e) in
+    (eqb→eq a b (left (eqb a b) (eqb a c) two), eqb→eq a c (right (eqb a b) (eqb a c) two))
 
 within-by : (a b c i : ℕ) (t : Bool) → fits a b c ≡ t → i < pick t a 0 → (i < a) × ((i < b) × (i < c))
 within-by a b c i false e h = absurd (not-suc-le-zero h)

@@ -1,2 +1,3 @@
+pub mod AsSingle
 pub mod OneAnswer
 pub mod Passing

@@ -1,5 +1,7 @@
 // The calls as C makes them: numbers and bytes in, numbers out. Nothing but passing on.
+ghost use Rattle.bulk.specs.Bulk.{ReportsTo};
 ghost use Rattle.ifc.specs.Exports.{session-of, CheckTo, OpenTo, ReportTo, AdvanceTo, ListTo, ServerTo, InformationTo, ShowTo};
+use bulk::report_all;
 use listing::list as list_into;
 use lookups::check;
 use lookups::information;
@@ -185,4 +187,16 @@ pub extern "C" fn ifc_show(
     *start = shown.start;
     *size = shown.size;
     shown.refusal
+}
+
+// The list is lent on as it came; its proof is by hand, since a slice of structs is lent.
+#[no_mangle]
+pub extern "C" fn ifc_reports(
+    sessions: &mut [Session],
+    reports: &[u32],
+    refusals: &mut [u32],
+) -> u32
+    ensures { λ r. ⌜ ReportsTo (now (sessions .entry)) (now (reports .entry)) (now (refusals .entry)) r (now (sessions .exit)) (now (refusals .exit)) ⌝ }
+{
+    report_all(sessions, reports, refusals)
 }

@@ -16,7 +16,7 @@ use Rattle.lookups.specs.declared.Checked.{Checked}
 use Rattle.lookups.specs.declared.Lookup.{Lookup}
 use Rattle.lookups.proofs.Parts.{information-part, information-absent}
 use Rattle.request.specs.Request.{Request, Field, request-lines}
-use Rattle.session.specs.Session.{ready, fresh, unopened, open-session, goes, report-session, Opens, Reports}
+use Rattle.session.specs.Session.{ready, fresh, unopened, open-session, with-state, report-session, Opens, Reports}
 use Rattle.session.specs.declared.Session.{Session}
 use Rattle.session.specs.declared.Opened.{Opened}
 use Rattle.session.specs.declared.Reported.{Reported}
@@ -26,6 +26,8 @@ use Rattle.rows.specs.declared.Given.{Given}
 use Rattle.show.specs.Show.{test-shown, show, Shows, PartIn}
 use Rattle.show.specs.declared.Answer.{Answer}
 use Rattle.show.proofs.Saying as saying
+use Rattle.bulk.specs.Bulk.{report-all, ReportsTo}
+use Rattle.bulk.proofs.Single as single
 use Rattle.order.specs.Order.{Numbered, priority}
 use Rattle.route.specs.Advance.{advance, Advances}
 use Rattle.route.specs.declared.Advanced.{Advanced}
@@ -37,7 +39,7 @@ use Rattle.promises.specs.Agreement.{MayDiffer, agreeing}
 use Rattle.promises.specs.Calls.{step}
 use Rattle.promises.specs.Common as common
 use Rattle.promises.specs.Passed.{Step, Walk, Fits, Asks, NoneAsked, Turn, PassedAt, WayPast}
-use Rattle.promises.specs.Refusals.{Line, First, FirstNumber, check-lines, open-lines, advance-lines, listing-lines, report-lines, lookup-lines, AdvanceUnchanged, ListingUnchanged, LookupEmpty, show-lines, ShowEmpty}
+use Rattle.promises.specs.Refusals.{Line, First, FirstNumber, check-lines, open-lines, advance-lines, listing-lines, report-lines, lookup-lines, AdvanceUnchanged, ListingUnchanged, LookupEmpty, show-lines, ShowEmpty, reports-lines, BulkUnchanged}
 use Rattle.promises.specs.Walks.{Candidate, Answers, Move, forwards}
 use Rattle.promises.proofs.Alike as alike
 use Rattle.promises.proofs.AlikeShown.{show-same}
@@ -46,6 +48,7 @@ use Rattle.promises.proofs.Differing.{unasked-agree, short-agree, asked
 use Rattle.promises.proofs.OneAnswer as one
 use Rattle.promises.proofs.Sessions.{opens-fresh}
 use Rattle.promises.proofs.AtMost.{at-most}
+use Rattle.promises.proofs.InBulk as in-bulk
 use Rattle.promises.proofs.Next.{route-iff}
 use Rattle.promises.proofs.PassedBy as passed-by
 use Rattle.promises.proofs.Refused.{first-one, check-refusal, open-refusal, advance-refusal, listing-refusal, report-refusal, server-refusal, information-refusal, show-refusal}
@@ -99,6 +102,9 @@ report-refuses = report-refusal
 pub show-refuses : (image r : List ℕ) (k : ℕ) → First (show-lines image r k) (show image r k .refusal) (show image r k .place)
 show-refuses = show-refusal
 
+pub reports-refuses : (xs : List Session) (ns before : List ℕ) → FirstNumber (reports-lines xs ns before) (report-all xs ns before .refusal)
+reports-refuses = in-bulk.reports-refusal
+
 -- and no other: of one list of lines there is one such number and place
 pub one-refusal : {ls : List Line} {m n p q : ℕ} → First ls m p → First ls n q → (m ≡ n) × (p ≡ q)
 one-refusal = first-one
@@ -132,6 +138,9 @@ information-empty = unchanged.information-empty
 
 pub show-empty : (image r : List ℕ) (k : ℕ) → (show image r k .refusal ≡ 0 → ⊥) → ShowEmpty (show image r k)
 show-empty = unchanged.show-empty
+
+pub reports-unchanged : (xs : List Session) (ns before : List ℕ) → (report-all xs ns before .refusal ≡ 0 → ⊥) → BulkUnchanged xs before (report-all xs ns before)
+reports-unchanged = in-bulk.reports-unchanged
 
 pub absent-is-empty : (image : List ℕ) (p : Profile) → judge image ≡ accepted p → (i : ℕ) (c : Criterion) → getElem? (p .criteria) i ≡ some c
     → c .info ≡ none → information image i ≡ no-part 0 0
@@ -180,6 +189,38 @@ pub shown-line-fits : (q : Request) (h c : Pattern) → test-shown q (descriptio
     → PartIn (λ (l : SessionLine). written-matches h (l .type)) (λ l. l .value ∷ []) c (request-lines q) (test-shown q (description h (some c)))
 shown-line-fits = saying.line-part
 
+-- ---- reports in bulk (change request 8)
+
+-- "Each session ends as the single call leaves it ..; the numbers are the single call's": of the session and the report at place i
+pub bulk-is-single : (xs : List Session) (ns before : List ℕ) → report-all xs ns before .refusal ≡ 0
+    → (i : ℕ) (x : Session) (n : ℕ) → getElem? xs i ≡ some x → getElem? ns i ≡ some n
+    → (getElem? (report-all xs ns before .sessions) i ≡ some (report-session x n .session))
+    × (getElem? (report-all xs ns before .refusals) i ≡ some (report-session x n .refusal))
+bulk-is-single = single.as-single
+
+-- and there are no other places: each list is as long as it was
+pub bulk-keeps-lengths : (xs : List Session) (ns before : List ℕ)
+    → (length (report-all xs ns before .sessions) ≡ length xs) × (length (report-all xs ns before .refusals) ≡ length before)
+bulk-keeps-lengths = single.as-long
+
+-- "refused ones unchanged"
+pub bulk-refused-unchanged : (xs : List Session) (ns before : List ℕ) → report-all xs ns before .refusal ≡ 0
+    → (i : ℕ) (x : Session) (n : ℕ) → getElem? xs i ≡ some x → getElem? ns i ≡ some n → (report-session x n .refusal ≡ 0 → ⊥)
+    → getElem? (report-all xs ns before .sessions) i ≡ some x
+bulk-refused-unchanged = in-bulk.refused-stays
+
+-- of any session only the state may change
+pub report-only-state : (x : Session) (n : ℕ) → report-session x n .session ≡ with-state x (report-session x n .session .state)
+report-only-state = single.only-state
+
+-- order does not matter: a session with its report gets the same answer at any place of any list, whatever else stands there
+pub bulk-order-free : (xs : List Session) (ns before : List ℕ) → report-all xs ns before .refusal ≡ 0
+    → (ys : List Session) (ms before′ : List ℕ) → report-all ys ms before′ .refusal ≡ 0
+    → (i j : ℕ) (x : Session) (n : ℕ) → getElem? xs i ≡ some x → getElem? ns i ≡ some n → getElem? ys j ≡ some x → getElem? ms j ≡ some n
+    → (getElem? (report-all xs ns before .sessions) i ≡ getElem? (report-all ys ms before′ .sessions) j)
+    × (getElem? (report-all xs ns before .refusals) i ≡ getElem? (report-all ys ms before′ .refusals) j)
+bulk-order-free = in-bulk.order-free
+
 -- ---- demand 3, call by call
 
 pub advance-reads-no-more : (image a b : List ℕ) → MayDiffer image a b → (x : Session) → advance x image a ≡ advance x image b
@@ -219,6 +260,10 @@ one-open = one.one-open
 
 pub one-report : {x : Session} {n : ℕ} {a b : Reported} → Reports x n a → Reports x n b → a ≡ b
 one-report = one.one-report
+
+pub one-reports : {xs ys zs : List Session} {ns before rs ts : List ℕ} {n m : ℕ} → ReportsTo xs ns before n ys rs → ReportsTo xs ns before m zs ts
+    → (n ≡ m) × (ys ≡ zs) × (rs ≡ ts)
+one-reports = single.one-answer
 
 pub one-server : {image : List ℕ} {i : ℕ} {a b : Lookup} → Serves image i a → Serves image i b → a ≡ b
 one-server = one.one-server

@@ -6,6 +6,7 @@ pub mod Details
 pub mod Differing
 pub mod EachWay
 pub mod EveryCall
+pub mod InBulk
 pub mod Listings
 pub mod Main
 pub mod Next

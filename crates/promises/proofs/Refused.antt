@@ -34,17 +34,17 @@ use Rattle.promises.specs.Refusals.{Line, at-0, First, FirstNumber, numb
 -- ---- the first line that holds
 
 -- a refusal's number and place; 0 and 0 is none
-record Refusal : Type 0 where
-  number : ℕ
-  place : ℕ
+pub record Refusal : Type 0 where
+  pub number : ℕ
+  pub place : ℕ
 
-abbrev no-refusal : Refusal
+abbrev pub no-refusal : Refusal
 no-refusal = record { number = 0; place = 0 }
 
-abbrev this-or : Bool → Line → Refusal → Refusal
+abbrev pub this-or : Bool → Line → Refusal → Refusal
 this-or b l later = pick b (record { number = l .number; place = l .place }) later
 
-abbrev first-of : List Line → Refusal
+abbrev pub first-of : List Line → Refusal
 first-of [] = no-refusal
 first-of (l ∷ ls) = this-or (l .holds) l (first-of ls)
 
@@ -65,7 +65,7 @@ first-one (this-one {l = l} t) (a-later-one u f) = absurd (T-not (l .holds) u t)
 first-one (a-later-one {l = l} u f) (this-one t) = absurd (T-not (l .holds) u t)
 first-one (a-later-one u f) (a-later-one v g) = first-one f g
 
-as-first : (ls : List Line) (r : Refusal) → r ≡ first-of ls → First ls (r .number) (r .place)
+pub as-first : (ls : List Line) (r : Refusal) → r ≡ first-of ls → First ls (r .number) (r .place)
 as-first ls r e = subst (λ (x : Refusal). First ls (x .number) (x .place)) (sym e) (first-is ls)
 
 -- ---- the refusal of an answer

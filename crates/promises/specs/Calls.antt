@@ -1,6 +1,6 @@
 -- Any sequence of calls: what each is lent, what it answers, and what becomes of the sessions, which stand in a store.
 use Prim.Native.Nat.{ℕ}
-use mathlib.Core.List.{List, [], _∷_}
+use mathlib.Core.List.{List, [], _∷_, map}
 use lib.Dec.{eqb}
 use Rattle.octets.specs.Lists.{pick}
 use Rattle.lookups.specs.Lookups.{check, server, information}
@@ -16,6 +16,7 @@ use Rattle.listing.specs.Listing.{Listing, listing}
 use Rattle.route.specs.declared.Advanced.{Advanced}
 use Rattle.show.specs.Show.{show}
 use Rattle.show.specs.declared.Answer as show
+use Rattle.bulk.specs.Bulk.{Bulk, report-all}
 use Rattle.promises.specs.Agreement.{MayDiffer}
 
 -- every call of the library, with all that it is lent; a session is named by its slot
@@ -28,6 +29,7 @@ pub data Call : Type 0 where
   serving : (image : List ℕ) (criterion : ℕ) → Call
   informing : (image : List ℕ) (criterion : ℕ) → Call
   showing : (image request : List ℕ) (row : ℕ) → Call
+  reporting-all : (slots reports refusals : List ℕ) → Call
 
 -- what it answers, every number and every lent place
 pub data Answer : Type 0 where
@@ -38,12 +40,19 @@ pub data Answer : Type 0 where
   listed : Listing → Answer
   looked : Lookup → Answer
   shown : show.Answer → Answer
+  reported-all : Bulk → Answer
 
 abbrev pub Store : Type 0
 Store = ℕ → Session
 
 abbrev pub put : Store → ℕ → Session → Store
 put st k x = λ j. pick (eqb j k) x (st j)
+
+-- a list of sessions, each to its slot
+abbrev pub put-all : Store → List ℕ → List Session → Store
+put-all st [] xs = st
+put-all st (k ∷ ks) [] = st
+put-all st (k ∷ ks) (x ∷ xs) = put-all (put st k x) ks xs
 
 -- ---- one call
 
@@ -60,6 +69,9 @@ step (listing-it g image r places) st = record { answer = listed (listing g imag
 step (serving image i) st = record { answer = looked (server image i); store = st }
 step (informing image i) st = record { answer = looked (information image i); store = st }
 step (showing image r k) st = record { answer = shown (show image r k); store = st }
+step (reporting-all ks ns before) st =
+    let b = report-all (map st ks) ns before in
+    record { answer = reported-all b; store = put-all st ks (b .sessions) }
 
 -- ---- one after the other
 

@@ -17,6 +17,7 @@ use Rattle.rows.specs.Rows.{REGISTER}
 use Rattle.rows.specs.declared.Given.{Given}
 use Rattle.fitting.specs.Fitting.{criterion-fits}
 use Rattle.show.specs.declared.Answer.{Answer}
+use Rattle.bulk.specs.Bulk.{fits, Bulk}
 use Rattle.listing.specs.Listing.{Listing, listed}
 use Rattle.route.specs.declared.Advanced.{Advanced}
 
@@ -113,6 +114,10 @@ lookup-lines image i = image-line (judge image) ∷ at-0 (no-such (judge image) 
 abbrev pub show-lines : List ℕ → List ℕ → ℕ → List Line
 show-lines image r k = image-line (judge image) ∷ at-0 (unreadable (read-request r)) 7 ∷ at-0 (no-row (judge image) k) 13 ∷ []
 
+-- "17 for lengths that differ or exceed 256" (change request 8); the single refusals stand in the list
+abbrev pub reports-lines : List Session → List ℕ → List ℕ → List Line
+reports-lines xs ns before = at-0 (not (fits (length xs) (length ns) (length before))) 17 ∷ []
+
 -- ---- "on a refusal the session comes back as it went in, counts are zero, no place of an output list is written"
 
 pub record AdvanceUnchanged (x : Session) (a : Advanced) : Type 0 where
@@ -142,3 +147,8 @@ pub record ShowEmpty (a : Answer) : Type 0 where
   pub value : a .value ≡ 0
   pub start : a .start ≡ 0
   pub size : a .size ≡ 0
+
+-- "and then no list is touched" (change request 8)
+pub record BulkUnchanged (xs : List Session) (before : List ℕ) (b : Bulk) : Type 0 where
+  pub sessions : b .sessions ≡ xs
+  pub refusals : b .refusals ≡ before

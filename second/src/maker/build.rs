@@ -1,7 +1,7 @@
 //! Cases from their inputs. What a call lends holds a mark beforehand, so that an answer
 //! shows which places were written.
 
-use crate::case::{self, Call, Case};
+use crate::case::{self, in_bytes, record_of, Call, Case};
 use crate::session::Session;
 
 /// Held by lent number `place` before the call; no answer has it.
@@ -58,6 +58,23 @@ pub fn information(label: &str, image: &[u8], number: u32) -> Case {
 
 pub fn show(label: &str, image: &[u8], request: &[u8], row: u32) -> Case {
     case(Call::Show, label, image, request, &[row])
+}
+
+/// The refusal numbers hold a mark, so that an answer shows which of them were written.
+pub fn reports(label: &str, sessions: &[Session], reports: &[u32], refusals: usize) -> Case {
+    let sessions_len = sessions.len() as u32;
+    let sessions: Vec<u32> = sessions.iter().flat_map(record_of).collect();
+    let before: Vec<u32> = (0..refusals).map(mark).collect();
+    Case {
+        list: in_bytes(&[sessions, before].concat()),
+        ..case(
+            Call::Reports,
+            label,
+            b"",
+            &in_bytes(reports),
+            &[sessions_len, reports.len() as u32, refusals as u32],
+        )
+    }
 }
 
 pub const READY: Session = Session { case: 0, state: 0, forwarded: 0, last: 0, handling: 0 };

@@ -2,6 +2,7 @@
 
 pub mod boundaries;
 pub mod build;
+pub mod bulks;
 pub mod draft;
 pub mod faults;
 pub mod few;
@@ -31,6 +32,7 @@ pub fn fixed() -> Vec<Case> {
     cases.extend(boundaries::cases());
     cases.extend(masses::cases());
     cases.extend(shows::of_patterns());
+    cases.extend(bulks::cases());
     cases
 }
 
@@ -54,11 +56,12 @@ pub fn random(seed: u64, count: usize) -> Vec<Case> {
     cases
 }
 
-/// All fixed cases, then `count` random ones, then a quarter as many of show.
+/// All fixed cases, then `count` random ones, then a quarter as many of show, and a tenth as many of reports in bulk.
 pub fn cases(seed: u64, count: usize) -> Vec<Case> {
     let mut cases = fixed();
     cases.extend(random(seed, count));
     cases.extend(shows::random(seed, count / 4));
+    cases.extend(bulks::random(seed, count / 10));
     cases
 }
 
