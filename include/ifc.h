@@ -19,15 +19,15 @@
  * What every call keeps to
  *
  * - It returns a refusal number, 0 for none. If several would apply, it is the first in this order: 10, 1 to 6 (the first fault
- *   of the image in reading order), 7, 11, 8, 9, 12; for a lookup 13 after the image, for ifc_show 13 after 7, for ifc_reports 17
- *   alone. A refusal names no server and no route: the host must not let the SIP call go on. The session may be tried again with
- *   what was wrong mended.
+ *   of the image in reading order), 7, 11, 8, 9, 12; for a lookup 13 after the image, for ifc_show 13 after 7, for ifc_plain 5, 17,
+ *   for ifc_reports 17 alone. A refusal names no server and no route: the host must not let the SIP call go on. The session may be
+ *   tried again with what was wrong mended.
  * - A lent number (uint32_t *) is written on every return. On a refusal it is 0, with two exceptions: `place`, where an image
  *   fault (1 to 6) stands, in bytes from the image's start (it may be 0: the number returned tells whether there is one); and a
  *   session's numbers, which hold what they held. Only ifc_open gives them new values on a refusal. In a list nothing is written then.
- * - Image and request are only read, and lent for the call: nothing points into them afterwards, and nobody may change them while it
- *   runs. They may be NULL if their length is 0, and so may a list. All other pointers must be valid and aligned. Lent numbers
- *   and lists overlap nothing else that is lent.
+ * - Image and request, and ifc_plain's pattern and text, are only read, and lent for the call: nothing points into them afterwards,
+ *   and nobody may change them while it runs. They may be NULL if their length is 0, and so may a list. All other pointers must be
+ *   valid and aligned. Lent numbers and lists overlap nothing else that is lent.
  * - There is no global state. Any number of threads may call at once, also over one image; a session belongs to one thread at a
  *   time, as any variable does.
  * - Stack: at most 160 KB (163,840 bytes) for a call, measured.
@@ -49,7 +49,7 @@ extern "C" {
 
 /* Limits. */
 enum { IFC_IMAGE_MOST = 32768, IFC_REQUEST_MOST = 65535, IFC_CRITERIA_MOST = 64 };
-enum { IFC_REPORTS_MOST = 256 }; /* ifc_reports */
+enum { IFC_REPORTS_MOST = 256, IFC_PLAIN_MOST = 256 }; /* ifc_reports, ifc_plain */
 
 /* Refusals, each with its line of document 01, and 17 with that of change request 8. */
 enum {
@@ -58,7 +58,7 @@ enum {
     IFC_IMAGE_CUT = 2,            /* image ends too early */
     IFC_IMAGE_NOT_AT_END = 3,     /* bytes after the criteria */
     IFC_IMAGE_FIELD = 4,          /* field out of range, order or table; edition not 1; row with no membership or above eight */
-    IFC_IMAGE_STRING = 5,         /* string wrong for its use */
+    IFC_IMAGE_STRING = 5,         /* string wrong for its use; for ifc_plain: no pattern */
     IFC_IMAGE_PRIORITY = 6,       /* repeated priority */
     IFC_REQUEST_UNREADABLE = 7,   /* request unreadable */
     IFC_NUMBER_OUT_OF_RANGE = 8,  /* case above 3 (open, list), report above 2 */
@@ -67,7 +67,7 @@ enum {
     IFC_WRONG_METHOD = 11,        /* advance on REGISTER, listing on another method */
     IFC_TOO_FEW_PLACES = 12,      /* more fitting criteria than places */
     IFC_NO_SUCH_CRITERION = 13,   /* no such criterion; for ifc_show: no such row */
-    IFC_LENGTHS = 17              /* ifc_reports: lengths that differ or exceed 256 */
+    IFC_LENGTHS = 17              /* ifc_reports: lengths that differ or exceed 256; ifc_plain: text over 256 bytes */
 };
 
 /* Session cases, as 3GPP's Cx interface numbers them. */
@@ -197,6 +197,21 @@ uint32_t ifc_show(const uint8_t *image, size_t image_len, const uint8_t *request
  * no list is touched. */
 uint32_t ifc_reports(struct ifc_session *sessions, size_t sessions_len, const uint32_t *reports, size_t reports_len,
     uint32_t *refusals, size_t refusals_len);
+
+/* For testers: where an edition 1 pattern matches a text, by a second, plain matcher that is short enough to be read in a meeting
+ * (crates/plain of the source; since change request 7). It is proved to agree with the main one, by which the other calls answer, on
+ * every pattern and text that it takes. None of them calls it.
+ *
+ * The pattern is one as rows have them; it may be longer than an image's strings. It is tried as written, on at most
+ * IFC_PLAIN_MOST bytes, which may be any. *found is 1 if some part of the text fits, and then *start and *length say which: the
+ * smallest start, counted from 0, and of those the longest length, which may be 0. Or it is 0, and so are both.
+ *
+ * It "tries the choices one after the other": its time is exponential at worst, many times as long with each `*`. Most pairs take
+ * microseconds. On 256 `a` two `a*` take 1 ms, three 0.1 s, four 4 s, measured, and sixty would not end in a lifetime: never lend it
+ * what a stranger wrote. Its stack grows with pattern and text: 46,000 bytes at most, measured over the deepest pairs.
+ * Refused with 5 (no pattern, the empty one too), then 17 (text over 256 bytes). */
+uint32_t ifc_plain(const uint8_t *pattern, size_t pattern_len, const uint8_t *text, size_t text_len, uint32_t *found,
+    uint32_t *start, uint32_t *length);
 
 /* ---- for convenience: the same calls over two structs. They only pass addresses. */
 

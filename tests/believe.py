@@ -44,8 +44,8 @@ def reached(roots):
 
 
 files = {p for p in glob.glob("crates/*/specs/*.antt") if reader(p)}
-for path in sorted(files):
-    for inner in sorted(p for p in brought(path) if "/Inner/" in p):
+for path in sorted(files | set(PAGES)):
+    for inner in sorted(p for p in brought(path) if "/specs/Inner/" in p):
         wrong.append(f"{path} brings in {inner}")
 exported = {p for p in reached(["crates/ifc/src/lib.rt"]) if "/specs/" in p}
 statements = {p for page in PAGES for p in brought(page) if p in files}

@@ -8,7 +8,7 @@
 #include "../include/ifc.h"
 
 enum { MOST = 16, RECORD = 5 }; /* numbers of a case but its lists; numbers of a session */
-enum { CHECK, OPEN, ADVANCE, REPORT, LIST, SERVER, INFORMATION, SHOW, REPORTS };
+enum { CHECK, OPEN, ADVANCE, REPORT, LIST, SERVER, INFORMATION, SHOW, REPORTS, PLAIN };
 
 static void put_bytes(FILE *out, const struct bytes *from) {
     put(out, from->length);
@@ -61,6 +61,8 @@ static uint32_t call(const struct one *c, const struct lent *at, uint32_t *n) {
     case INFORMATION: return ifc_information(image, length, n[0], &n[1], &n[2], &n[3], &n[4]);
     case SHOW:
         return ifc_show(image, length, at->request, c->request.length, n[0], &n[1], &n[2], &n[3], &n[4], &n[5], &n[6]);
+    /* a pattern where the others have the image, a text where they have the request */
+    case PLAIN: return ifc_plain(image, length, at->request, c->request.length, &n[0], &n[1], &n[2]);
     default: stop("a call that there is not"); return 0;
     }
 }

@@ -1,8 +1,9 @@
 #!/bin/sh
 # What docs/STATEMENTS.md names exists, and its reading order is that of the files. The library from C: the header, the archive's names,
-# what is installed, document 01's worked images and its marked trigger, what is shown of a row, reports in bulk, the examples, requests
-# from the wire, threads, stack, garbage; then the fixed cases of the second program and COUNT random ones from SEED. Patterns from C, on three times as many blocks of lines;
-# and the reading of requests, with the end of the head at every place, and on 50,000 random ones.
+# what is installed, document 01's worked images and its marked trigger, what is shown of a row, reports in bulk, the plain matcher, the
+# examples, requests from the wire, threads, stack, garbage; then the fixed cases of the second program and COUNT random ones from SEED;
+# 200,000 pairs asked of both matchers. Patterns from C, on three times as many blocks of lines; and the reading of requests, with the end
+# of the head at every place, and on 50,000 random ones.
 # check.sh [SEED COUNT]
 set -eu
 cd "$(dirname "$0")/.."
@@ -39,13 +40,16 @@ build worked tests/worked.c "$lib"
 run worked
 sh tests/examples.sh "$out" "$lib"
 sh tests/sip.sh "$lib"
-for name in marked shown reports threads stack garbage; do
+for name in marked shown reports plain threads stack garbage; do
     build "$name" "tests/$name.c" "$lib"
     run "$name"
 done
 "$second" make "$seed" "$count" >"$out/made"
 build cases tests/cases.c "$lib"
 compare cases
+"$second" pairs make "$seed" 200000 >"$out/pairs"
+run cases "$out/pairs" "$out/answers"
+"$second" pairs compare "$out/pairs" "$out/answers"
 build lines tests/lines.c target/staticlib/libprobes.a
 "$second" lines make "$seed" "$((3 * count))" >"$out/made-lines"
 run lines "$out/made-lines" "$out/met"

@@ -101,7 +101,7 @@ static void draw_list(void) {
 
 /* ---- calls */
 
-static uint32_t refusals[14], forwards, routes, listed, shown;
+static uint32_t refusals[14], forwards, routes, listed, shown, matched, plain_refused[2];
 static ifc_session session;
 
 static void seen(uint32_t refusal, const char *may) {
@@ -266,6 +266,28 @@ static void show(void) {
     shown++;
 }
 
+/* A few bytes that make patterns, on a text mostly short enough. Three `*` at most: more could take long. */
+static void plain(void) {
+    static const uint8_t letters[] = "ab*.[]^$-\\";
+    static struct part pattern, text;
+    uint32_t found = 7, start = 7, length = 7;
+    if (!pattern.room) pattern.room = room(), text.room = room();
+    pattern.length = draw(7);
+    for (size_t i = 0; i < pattern.length; i++) pattern.copy[i] = draw(8) ? letters[draw(10)] : (uint8_t)draw(256);
+    text.length = draw(16) ? draw(40) : 250 + draw(12);
+    for (size_t i = 0; i < text.length; i++) text.copy[i] = draw(8) ? letters[draw(2)] : (uint8_t)draw(256);
+    lay(&pattern), lay(&text);
+    uint32_t refusal = ifc_plain(pattern.at, pattern.length, text.at, text.length, &found, &start, &length);
+    must(refusal == 0 || refusal == 5 || refusal == 17, "a refusal that the plain matcher does not give");
+    must(refusal == 5 || (refusal == 17) == (text.length > 256), "the plain matcher's text is judged wrongly");
+    must(refusal == 5 || pattern.length > 0, "the plain matcher takes the empty pattern");
+    must(untouched(&pattern) && untouched(&text), "the plain matcher changed what it was lent");
+    must(found <= (refusal ? 0u : 1u) && (found || (!start && !length)), "the plain matcher's numbers");
+    must((size_t)start + length <= text.length, "a part that the text is too short for");
+    matched += found;
+    if (refusal) plain_refused[refusal == 17]++;
+}
+
 int main(int argc, char **argv) {
     uint32_t count = argc > 2 ? (uint32_t)strtoul(argv[2], NULL, 10) : 20000;
     if (argc > 1) seed = strtoul(argv[1], NULL, 10) * 2 + 1;
@@ -282,7 +304,7 @@ int main(int argc, char **argv) {
         case 1: open_one(); break;
         case 2: wild_session(); break;
         case 3: case 4: lookup(); break;
-        case 5: show(); break;
+        case 5: if (draw(2)) show(); else plain(); break;
         case 6: case 7: case 8: draw_list(), list_all(); break;
         case 9: case 10: case 11: report(); break;
         case 12: report_all(); break;
@@ -292,7 +314,8 @@ int main(int argc, char **argv) {
     for (int i = 0; i < 14; i++) must(refusals[i] > 0, "some refusal was never seen: more calls are needed");
     must(forwards > 0 && routes > 0 && listed > 0 && shown > 0, "some answer was never seen: more calls are needed");
     must(bulk_taken > 0 && bulk_refused > 0, "no lists were taken, or none refused: more calls are needed");
-    printf("garbage: ok (%u calls, %u forwards, %u routes, %u listed, %u shown, %u lists of reports)\n", count, forwards, routes, listed,
-        shown, bulk_taken);
+    must(matched > 0 && plain_refused[0] > 0 && plain_refused[1] > 0, "some answer of the plain matcher was never seen");
+    printf("garbage: ok (%u calls, %u forwards, %u routes, %u listed, %u shown, %u lists of reports, %u matched)\n", count, forwards, routes,
+        listed, shown, bulk_taken, matched);
     return 0;
 }

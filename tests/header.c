@@ -18,6 +18,7 @@ number (*server)(bytes, size_t, number, lent, lent, lent) = ifc_server;
 number (*information)(bytes, size_t, number, lent, lent, lent, lent) = ifc_information;
 number (*show)(bytes, size_t, bytes, size_t, number, lent, lent, lent, lent, lent, lent) = ifc_show;
 number (*reports_in_bulk)(struct ifc_session *, size_t, const number *, size_t, lent, size_t) = ifc_reports;
+number (*plain)(bytes, size_t, bytes, size_t, lent, lent, lent) = ifc_plain;
 
 number (*session_open)(ifc_session *, number) = ifc_session_open;
 number (*session_advance)(ifc_session *, bytes, size_t, bytes, size_t, ifc_answer *) = ifc_session_advance;
@@ -48,6 +49,8 @@ HOLDS(limits, IFC_IMAGE_MOST == 32768 && IFC_REQUEST_MOST == 65535 && IFC_CRITER
 
 /* "a lent list of up to 256 sessions"; "17 for lengths that differ or exceed 256" (change request 8) */
 HOLDS(in_bulk, IFC_REPORTS_MOST == 256 && IFC_LENGTHS == 17);
+/* Change request 7: "texts up to 256 bytes", "17 for a longer text" */
+HOLDS(of_plain, IFC_PLAIN_MOST == 256);
 
 /* "Refusal numbers" */
 HOLDS(of_images, IFC_ACCEPTED == 0 && IFC_IMAGE_TOO_LONG == 1 && IFC_IMAGE_CUT == 2 && IFC_IMAGE_NOT_AT_END == 3 &&

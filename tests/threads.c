@@ -20,6 +20,7 @@ struct walk {
     uint32_t shown[16][7];
     ifc_session reported[4];
     uint32_t numbers[5];
+    uint32_t plain[4][4];
 };
 
 static uint8_t image[IMAGE_MOST];
@@ -27,7 +28,7 @@ static size_t image_len;
 static uint8_t requests[SAMPLE_REQUESTS][SAMPLE_ROOM];
 static size_t lengths[SAMPLE_REQUESTS];
 static struct walk alone[SAMPLE_REQUESTS];
-static uint32_t forwards, listings, shows, reported;
+static uint32_t forwards, listings, shows, reported, matched;
 
 static void walk(uint32_t variant, struct walk *w) {
     const uint8_t *request = requests[variant];
@@ -59,6 +60,15 @@ static void walk(uint32_t variant, struct walk *w) {
     }
 }
 
+static void match(uint32_t variant, struct walk *w) {
+    static const char *const patterns[4] = {"sip:.*@", "[A-Z][a-z]*: ", "a[^b]*$", "a**"};
+    size_t length = lengths[variant] < IFC_PLAIN_MOST ? lengths[variant] : IFC_PLAIN_MOST;
+    for (int i = 0; i < 4; i++) {
+        uint32_t *n = w->plain[i];
+        n[0] = ifc_plain((const uint8_t *)patterns[i], strlen(patterns[i]), requests[variant], length, &n[1], &n[2], &n[3]);
+    }
+}
+
 /* Each thread begins elsewhere, so that different requests are in work at once. */
 static void *work(void *number) {
     struct walk *mine = malloc(sizeof *mine);
@@ -66,6 +76,7 @@ static void *work(void *number) {
     for (uint32_t i = 0; mine && i < ROUNDS * SAMPLE_REQUESTS; i++) {
         uint32_t variant = (uint32_t)(start * (SAMPLE_REQUESTS / THREADS) + i * 5) % SAMPLE_REQUESTS;
         walk(variant, mine);
+        match(variant, mine);
         if (memcmp(mine, &alone[variant], sizeof *mine)) wrong++;
     }
     free(mine);
@@ -79,15 +90,18 @@ int main(void) {
     for (uint32_t i = 0; i < SAMPLE_REQUESTS; i++) {
         lengths[i] = sample_request(i, (char *)requests[i], SAMPLE_ROOM);
         walk(i, &alone[i]);
+        match(i, &alone[i]);
         for (int c = 0; c < 4; c++) {
             for (int k = 0; k < MOST_STEPS; k++) forwards += alone[i].answers[c][k].outcome == IFC_FORWARD;
             for (int type = 0; type < 3; type++) listings += alone[i].listed[c][type][2];
         }
         for (int row = 0; row < 16; row++) shows += alone[i].shown[row][2];
         for (int c = 0; c < 4; c++) reported += alone[i].numbers[c] == 0;
+        for (int k = 0; k < 4; k++) matched += alone[i].plain[k][1];
     }
-    if (forwards < 1000 || listings < 1000 || shows < 500 || reported < 500) {
-        printf("threads: the sample leads nowhere (%u forwards, %u listed, %u shown, %u reported)\n", forwards, listings, shows, reported);
+    if (forwards < 1000 || listings < 1000 || shows < 500 || reported < 500 || matched < 500) {
+        printf("threads: the sample leads nowhere (%u forwards, %u listed, %u shown, %u reported, %u matched)\n", forwards, listings, shows,
+            reported, matched);
         return 1;
     }
     for (uintptr_t i = 0; i < THREADS; i++)
@@ -104,7 +118,7 @@ int main(void) {
         printf("threads: %lu walks differ from those of one thread\n", (unsigned long)wrong);
         return 1;
     }
-    printf("threads: ok (%d at once, %d walks each, %u forwards, %u listed, %u shown, %u reported in bulk)\n", THREADS,
-        ROUNDS * SAMPLE_REQUESTS, forwards, listings, shows, reported);
+    printf("threads: ok (%d at once, %d walks each, %u forwards, %u listed, %u shown, %u reported in bulk, %u matched)\n", THREADS,
+        ROUNDS * SAMPLE_REQUESTS, forwards, listings, shows, reported, matched);
     return 0;
 }

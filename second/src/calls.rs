@@ -1,4 +1,4 @@
-//! The eight calls. Each answers every number it lends, refusals too.
+//! The calls over an image, a request or a session. Each answers every number it lends, refusals too.
 
 use crate::image;
 use crate::profile::{Fault, Profile, Row, Test};

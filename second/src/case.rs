@@ -3,6 +3,7 @@
 use crate::bulk;
 use crate::calls;
 use crate::place::Place;
+use crate::plain;
 use crate::profile::Fault;
 use crate::session::{self, Session};
 use crate::shown::Shown;
@@ -19,9 +20,10 @@ pub enum Call {
     Information,
     Show,
     Reports,
+    Plain,
 }
 
-pub const CALLS: [Call; 9] = [
+pub const CALLS: [Call; 10] = [
     Call::Check,
     Call::Open,
     Call::Advance,
@@ -31,6 +33,7 @@ pub const CALLS: [Call; 9] = [
     Call::Information,
     Call::Show,
     Call::Reports,
+    Call::Plain,
 ];
 
 impl Call {
@@ -58,6 +61,7 @@ impl Call {
             Call::Information => &["criterion", "*place", "*present", "*start", "*length"],
             Call::Show => &["row", "*place", "*found", "*field", "*value", "*start", "*length"],
             Call::Reports => &["sessions_len", "reports_len", "refusals_len"],
+            Call::Plain => &["*found", "*start", "*length"],
         }
     }
 }
@@ -67,8 +71,9 @@ pub struct Case {
     pub call: Call,
     /// For the reader of a difference.
     pub label: String,
+    /// Of plain: the pattern.
     pub image: Vec<u8>,
-    /// Of reports in bulk, the list of reports as written by `in_bytes`.
+    /// Of reports in bulk, the list of reports as written by `in_bytes`; of plain, the text.
     pub request: Vec<u8>,
     /// The lent list before the call; of reports in bulk both lists, the sessions and then the refusal numbers.
     pub list: Vec<u8>,
@@ -97,6 +102,7 @@ pub fn answer(case: &Case) -> Answer {
         Call::Information => information(case, &mut numbers),
         Call::Show => show(case, &mut numbers),
         Call::Reports => reports(case, &mut list),
+        Call::Plain => plain(case, &mut numbers),
     };
     Answer { number, list, numbers }
 }
@@ -287,4 +293,27 @@ fn reports(case: &Case, list: &mut Vec<u8>) -> u32 {
     let sessions: Vec<u32> = sessions.iter().flat_map(record_of).collect();
     *list = in_bytes(&[sessions, refusals].concat());
     number
+}
+
+fn plain(case: &Case, numbers: &mut [u32]) -> u32 {
+    let found = plain::plain(&case.image, &case.request);
+    let kept = match found {
+        Ok(None) => twisted(Twist::NowherePlainWritesNothing),
+        Ok(Some(_)) => false,
+        Err(_) => twisted(Twist::RefusedPlainWritesNothing),
+    };
+    if !kept {
+        numbers.fill(0);
+    }
+    match found {
+        Ok(Some(Place { start, length })) => {
+            let length = if twisted(Twist::PlainEndForLength) { start + length } else { length };
+            let as_byte = |number: usize, twist| if twisted(twist) { number & 255 } else { number } as u32;
+            let places = [as_byte(start, Twist::PlainStartAsByte), as_byte(length, Twist::PlainLengthAsByte)];
+            numbers.copy_from_slice(&[1, places[0], places[1]]);
+            0
+        }
+        Ok(None) => 0,
+        Err(number) => number,
+    }
 }

@@ -12,9 +12,11 @@ pub mod maker;
 pub mod matching;
 #[cfg(feature = "twists")]
 pub mod mutants;
+pub mod pairs;
 pub mod parts;
 pub mod pattern;
 pub mod place;
+pub mod plain;
 pub mod profile;
 pub mod request;
 pub mod row;

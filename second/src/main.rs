@@ -1,7 +1,7 @@
-//! The commands: make, few, answer, compare, show, parts, lines, mutants.
+//! The commands: make, few, answer, compare, show, parts, lines, pairs, mutants.
 
 use second::case::{self, Answer, Case};
-use second::{files, lines, maker, parts, show};
+use second::{files, lines, maker, pairs, parts, show};
 use std::fs::File;
 use std::io::{self, BufWriter, Read, Write};
 use std::process::ExitCode;
@@ -15,6 +15,8 @@ second parts make SEED COUNT > requests
 second parts compare REQUESTS COUNTS
 second lines make SEED COUNT > lines
 second lines compare LINES ANSWERS
+second pairs make SEED COUNT > cases
+second pairs compare CASES ANSWERS
 second mutants [SEED COUNT]   (built with --features twists)";
 
 fn main() -> ExitCode {
@@ -31,6 +33,8 @@ fn main() -> ExitCode {
         ["parts", ref rest @ ..] => parts::run(rest),
         ["lines", "make", seed, count] => make_lines(seed, count),
         ["lines", "compare", lines, answers] => lines::compare(lines, answers),
+        ["pairs", "make", seed, count] => make_pairs(seed, count),
+        ["pairs", "compare", cases, answers] => pairs::compare(cases, answers),
         ["mutants"] => mutants("1", "4000"),
         ["mutants", seed, count] => mutants(seed, count),
         _ => Err(USAGE.to_string()),
@@ -89,6 +93,10 @@ fn write_made(cases: &[Case]) -> Done {
 
 fn make_lines(seed: &str, count: &str) -> Done {
     lines::make(number(seed)?, number(count)? as usize)
+}
+
+fn make_pairs(seed: &str, count: &str) -> Done {
+    pairs::make(number(seed)?, number(count)? as usize)
 }
 
 fn answer(cases: &str, answers: &str) -> Done {

@@ -22,7 +22,9 @@ fn hex(bytes: &[u8]) -> String {
 
 pub fn case(number: usize, case: &Case) -> String {
     let mut out = format!("case {number}: {:?}: {}\n", case.call, case.label);
-    if !matches!(case.call, Call::Open | Call::Report | Call::Reports) {
+    if case.call == Call::Plain {
+        out += &format!("pattern {}\ntext {}\n", text(&case.image), text(&case.request));
+    } else if !matches!(case.call, Call::Open | Call::Report | Call::Reports) {
         out += &format!("image {}\n", hex(&case.image));
         out += &match image::read(&case.image) {
             Ok(profile) => contents(&case.image, &profile),

@@ -427,6 +427,20 @@ twists! {
     BulkForgetsLast: "a report in bulk forgets the last priority",
     BulkZeroUnwritten: "a number 0 is not written",
     BulkLastLeftOut: "the last session is left out",
+    // The plain matcher
+    PlainTextJudgedFirst: "7.1: number 17 comes before 5",
+    PlainEmptyPatternNowhere: "7.1: the empty pattern is found nowhere",
+    Plain256Refused: "7.1: a text of 256 bytes is refused",
+    Plain257Taken: "7.1: a text of 257 bytes is taken",
+    PlainLongTextAsFive: "7.1: a longer text is refused with 5",
+    PlainFolded: "7.2: letters fit in either form",
+    PlainLongPatternRefused: "7.3: a pattern over 1,024 bytes is refused",
+    PlainStarTakesOne: "a `*` takes at least one byte",
+    PlainEndForLength: "the end is answered in place of the plain matcher's length",
+    PlainStartAsByte: "a plain start's last byte is answered",
+    PlainLengthAsByte: "a plain length's last byte is answered",
+    RefusedPlainWritesNothing: "a refused plain matcher writes nothing",
+    NowherePlainWritesNothing: "a plain matcher that finds nothing writes nothing",
 }
 
 #[cfg(not(feature = "twists"))]

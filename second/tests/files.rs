@@ -73,8 +73,8 @@ fn commands() {
     let (cases, answers) = (path("cases"), path("answers"));
     let (status, made) = second(&["make", "9", "50"], b"");
     assert_eq!(status, Some(0));
-    // 50 random ones, a quarter as many of show, and a tenth as many of reports in bulk.
-    let count = maker::fixed().len() + 50 + 12 + 5;
+    // 50 random ones, a quarter as many of show and of plain, and a tenth as many of reports in bulk.
+    let count = maker::fixed().len() + 50 + 12 + 12 + 5;
     assert_eq!(files::read_cases(&mut &made[..]).expect("a case file").len(), count);
     std::fs::write(&cases, &made).expect("written");
     let (status, mut given) = second(&["answer"], &made);

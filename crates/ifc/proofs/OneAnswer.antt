@@ -3,7 +3,7 @@ use mathlib.Core.List.{List}
 use mathlib.Core.Path.{_≡_, sym, _∙_}
 use Prim.Native.Nat.{ℕ}
 use Rattle.session.specs.declared.Session.{Session}
-use Rattle.ifc.specs.Exports.{CheckTo, OpenTo, ReportTo, ServerTo, InformationTo, AdvanceTo, ListTo, ShowTo}
+use Rattle.ifc.specs.Exports.{CheckTo, OpenTo, ReportTo, ServerTo, InformationTo, AdvanceTo, ListTo, ShowTo, PlainTo}
 
 -- both are this
 both : {A : Type 0} {a b c : A} → a ≡ c → b ≡ c → a ≡ b
@@ -78,6 +78,15 @@ one-show h k = (
   both (h .found-is) (k .found-is),
   both (h .field-is) (k .field-is),
   both (h .value-is) (k .value-is),
+  both (h .start-is) (k .start-is),
+  both (h .size-is) (k .size-is),
+)
+
+pub one-plain : {pattern text : List ℕ} {n n′ f f′ s s′ l l′ : ℕ} → PlainTo pattern text n f s l → PlainTo pattern text n′ f′ s′ l′
+    → (n ≡ n′) × (f ≡ f′) × (s ≡ s′) × (l ≡ l′)
+one-plain h k = (
+  both (h .number-is) (k .number-is),
+  both (h .found-is) (k .found-is),
   both (h .start-is) (k .start-is),
   both (h .size-is) (k .size-is),
 )

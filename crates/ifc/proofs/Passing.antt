@@ -16,7 +16,9 @@ use Rattle.route.specs.declared.Advanced.{Advanced}
 use Rattle.listing.specs.declared.Listed.{Listed}
 use Rattle.show.specs.Show.{Shows}
 use Rattle.show.specs.declared.Answer.{Answer}
-use Rattle.ifc.specs.Exports.{as-number, session-of, CheckTo, OpenTo, ReportTo, ServerTo, InformationTo, AdvanceTo, ListTo, ShowTo}
+use Rattle.plain.specs.Plain.{Plains}
+use Rattle.plain.specs.declared.Answer as plain
+use Rattle.ifc.specs.Exports.{as-number, session-of, CheckTo, OpenTo, ReportTo, ServerTo, InformationTo, AdvanceTo, ListTo, ShowTo, PlainTo}
 
 pub passes-check : {image : List ℕ} {a : Checked} → Checks image a → CheckTo image (a .refusal) (a .place)
 passes-check h = record { number-is = ap (λ (x : Checked). x .refusal) (h .answer); place-is = ap (λ (x : Checked). x .place) (h .answer) }
@@ -101,4 +103,14 @@ passes-show h =
       value-is = ap (λ (x : Answer). x .value) (h .answer);
       start-is = ap (λ (x : Answer). x .start) (h .answer);
       size-is = ap (λ (x : Answer). x .size) (h .answer);
+    }
+
+pub passes-plain : {pattern text : List ℕ} {n : ℕ} {a : plain.Answer} → Plains pattern text a → n ≡ as-number (a .found)
+    → PlainTo pattern text (a .refusal) n (a .start) (a .size)
+passes-plain h e =
+    record {
+      number-is = ap (λ (x : plain.Answer). x .refusal) (h .answer);
+      found-is = e ∙ ap (λ (x : plain.Answer). as-number (x .found)) (h .answer);
+      start-is = ap (λ (x : plain.Answer). x .start) (h .answer);
+      size-is = ap (λ (x : plain.Answer). x .size) (h .answer);
     }

@@ -11,6 +11,7 @@ use Rattle.rows.specs.Rows.{given}
 use Rattle.route.specs.Advance.{advance}
 use Rattle.listing.specs.Listing.{listing}
 use Rattle.show.specs.Show.{show}
+use Rattle.plain.specs.Plain.{plain-answer}
 
 -- yes is 1, no is 0
 abbrev pub as-number : Bool → ℕ
@@ -88,3 +89,10 @@ pub record ShowTo (image request : List ℕ) (row number place found field value
   pub value-is : value ≡ show image request row .value
   pub start-is : start ≡ show image request row .start
   pub size-is : size ≡ show image request row .size
+
+-- the plain matcher: whether some part fits, and its place and length in the text
+pub record PlainTo (pattern text : List ℕ) (number found start size : ℕ) : Type 0 where
+  pub number-is : number ≡ plain-answer pattern text .refusal
+  pub found-is : found ≡ as-number (plain-answer pattern text .found)
+  pub start-is : start ≡ plain-answer pattern text .start
+  pub size-is : size ≡ plain-answer pattern text .size

@@ -1,12 +1,13 @@
 // The calls as C makes them: numbers and bytes in, numbers out. Nothing but passing on.
 ghost use Rattle.bulk.specs.Bulk.{ReportsTo};
-ghost use Rattle.ifc.specs.Exports.{session-of, CheckTo, OpenTo, ReportTo, AdvanceTo, ListTo, ServerTo, InformationTo, ShowTo};
+ghost use Rattle.ifc.specs.Exports.{session-of, CheckTo, OpenTo, ReportTo, AdvanceTo, ListTo, ServerTo, InformationTo, ShowTo, PlainTo};
 use bulk::report_all;
 use listing::list as list_into;
 use lookups::check;
 use lookups::information;
 use lookups::server;
 use octets::one_if;
+use plain::plain;
 use route::advance;
 use rows::Given;
 use session::Session;
@@ -187,6 +188,23 @@ pub extern "C" fn ifc_show(
     *start = shown.start;
     *size = shown.size;
     shown.refusal
+}
+
+#[no_mangle]
+pub extern "C" fn ifc_plain(
+    pattern: &[u8],
+    text: &[u8],
+    found: &mut u32,
+    start: &mut u32,
+    size: &mut u32,
+) -> u32
+    ensures { λ r. ⌜ PlainTo (now (pattern .entry)) (now (text .entry)) r (now (found .exit)) (now (start .exit)) (now (size .exit)) ⌝ }
+{
+    let matched = plain(pattern, text);
+    *found = one_if(matched.found);
+    *start = matched.start;
+    *size = matched.size;
+    matched.refusal
 }
 
 // The list is lent on as it came; its proof is by hand, since a slice of structs is lent.

@@ -1,5 +1,5 @@
 // The plain matcher (document 02, change request 7). It goes over the pattern's bytes where they stand and "tries the choices one after
-// the other, on a shorter pattern or a shorter text at each turn". With each `*` the number of choices can double.
+// the other, on a shorter pattern or a shorter text at each turn". With each `*` there can be many times as many choices.
 //
 // It calls three functions from below: `is_pattern(p)` says whether p is a pattern at all, `peek_at(s, i)` is the byte at i of s, or 256
 // past its end, and `to_long(n)` is n in four bytes. Behind `is_pattern` no fault is looked for.
@@ -84,13 +84,13 @@ fn try_list(p: &[u8], from: usize, c: u16) -> Trial
         }
         let last = last_at(p, i);
         let high = peek_at(p, last);
-        has = has | (low <= c) & (c <= high);
+        has = has | ((low <= c) & (c <= high));
         i = last + 1;
     }
     as_trial(false, i)
 }
 
-// The element at i on the byte c: `.` and a list with `^` take any byte but 0, `\` says that the next stands for itself.
+// The element at i on the byte c: a `\` says that the next byte stands for itself, and neither `.` nor a list with `^` ever takes byte 0.
 fn try_one(p: &[u8], i: usize, c: u16) -> Trial
     requires { ⌜ i < length (now p) ⌝ }
     ensures { λ r. ⌜ Tried (now (p .entry)) i c r ⌝ }

@@ -6,7 +6,8 @@ use Prim.Native.Nat.{ℕ, _≤_, _<_, _^_}
 use mathlib.Core.List.{List, List·Memᴰ, [], _∷_}
 use lib.ListN.{length, getElem?}
 use mathlib.Core.Option.{none, some, Option}
-use Rattle.basic.specs.Pattern.{Pattern}
+use Rattle.basic.specs.Pattern.{Pattern, meets}
+use Rattle.basic.specs.Reading.{read-pattern}
 use Rattle.pattern.specs.Matching.{matches, written-matches, name-matches}
 use Rattle.profile.specs.Image.{Stored, Criterion, Profile, accepted, refused, header, description}
 use Rattle.profile.specs.Judging.{judge}
@@ -26,6 +27,11 @@ use Rattle.rows.specs.declared.Given.{Given}
 use Rattle.show.specs.Show.{test-shown, show, Shows, PartIn}
 use Rattle.show.specs.declared.Answer.{Answer}
 use Rattle.show.proofs.Saying as saying
+use Rattle.place.specs.Place.{place-of}
+use Rattle.place.specs.declared.Place.{Place}
+use Rattle.plain.specs.Plain.{plain-answer, answered, Plains}
+use Rattle.plain.specs.declared.Answer as plain
+use Rattle.plain.proofs.Agreement as agreement
 use Rattle.bulk.specs.Bulk.{report-all, ReportsTo}
 use Rattle.bulk.proofs.Single as single
 use Rattle.order.specs.Order.{Numbered, priority}
@@ -39,7 +45,7 @@ use Rattle.promises.specs.Agreement.{MayDiffer, agreeing}
 use Rattle.promises.specs.Calls.{step}
 use Rattle.promises.specs.Common as common
 use Rattle.promises.specs.Passed.{Step, Walk, Fits, Asks, NoneAsked, Turn, PassedAt, WayPast}
-use Rattle.promises.specs.Refusals.{Line, First, FirstNumber, check-lines, open-lines, advance-lines, listing-lines, report-lines, lookup-lines, AdvanceUnchanged, ListingUnchanged, LookupEmpty, show-lines, ShowEmpty, reports-lines, BulkUnchanged}
+use Rattle.promises.specs.Refusals.{Line, First, FirstNumber, check-lines, open-lines, advance-lines, listing-lines, report-lines, lookup-lines, AdvanceUnchanged, ListingUnchanged, LookupEmpty, show-lines, ShowEmpty, reports-lines, BulkUnchanged, plain-lines, PlainEmpty}
 use Rattle.promises.specs.Walks.{Candidate, Answers, Move, forwards}
 use Rattle.promises.proofs.Alike as alike
 use Rattle.promises.proofs.AlikeShown.{show-same}
@@ -51,7 +57,7 @@ use Rattle.promises.proofs.AtMost.{at-most}
 use Rattle.promises.proofs.InBulk as in-bulk
 use Rattle.promises.proofs.Next.{route-iff}
 use Rattle.promises.proofs.PassedBy as passed-by
-use Rattle.promises.proofs.Refused.{first-one, check-refusal, open-refusal, advance-refusal, listing-refusal, report-refusal, server-refusal, information-refusal, show-refusal}
+use Rattle.promises.proofs.Refused.{first-one, check-refusal, open-refusal, advance-refusal, listing-refusal, report-refusal, server-refusal, information-refusal, show-refusal, plain-refusal}
 use Rattle.promises.proofs.Unchanged as unchanged
 use Rattle.promises.specs.EachCall.{lines, number}
 use Rattle.promises.specs.Pairs.{invite, under, line-m, typed}
@@ -105,6 +111,9 @@ show-refuses = show-refusal
 pub reports-refuses : (xs : List Session) (ns before : List ℕ) → FirstNumber (reports-lines xs ns before) (report-all xs ns before .refusal)
 reports-refuses = in-bulk.reports-refusal
 
+pub plain-refuses : (s t : List ℕ) → FirstNumber (plain-lines s t) (plain-answer s t .refusal)
+plain-refuses = plain-refusal
+
 -- and no other: of one list of lines there is one such number and place
 pub one-refusal : {ls : List Line} {m n p q : ℕ} → First ls m p → First ls n q → (m ≡ n) × (p ≡ q)
 one-refusal = first-one
@@ -141,6 +150,9 @@ show-empty = unchanged.show-empty
 
 pub reports-unchanged : (xs : List Session) (ns before : List ℕ) → (report-all xs ns before .refusal ≡ 0 → ⊥) → BulkUnchanged xs before (report-all xs ns before)
 reports-unchanged = in-bulk.reports-unchanged
+
+pub plain-empty : (s t : List ℕ) → (plain-answer s t .refusal ≡ 0 → ⊥) → PlainEmpty (plain-answer s t)
+plain-empty = unchanged.plain-empty
 
 pub absent-is-empty : (image : List ℕ) (p : Profile) → judge image ≡ accepted p → (i : ℕ) (c : Criterion) → getElem? (p .criteria) i ≡ some c
     → c .info ≡ none → information image i ≡ no-part 0 0
@@ -188,6 +200,18 @@ shown-field-fits = saying.header-part
 pub shown-line-fits : (q : Request) (h c : Pattern) → test-shown q (description h (some c)) .found ≡ true
     → PartIn (λ (l : SessionLine). written-matches h (l .type)) (λ l. l .value ∷ []) c (request-lines q) (test-shown q (description h (some c)))
 shown-line-fits = saying.line-part
+
+-- ---- the plain matcher (change request 7)
+
+-- "It agrees with the main one on every such pair, places of CR 2 included": what each one's contract says of its answer
+pub matchers-agree : (s t : List ℕ) (p : Pattern) → read-pattern s ≡ some p → length t ≤ 256 → (own : plain.Answer) → Plains s t own
+    → (main : Place) → main ≡ place-of meets p t → own ≡ answered main
+matchers-agree = agreement.matchers-agree
+
+-- it finds a part exactly where the pattern matches, as trials have it
+pub plain-finds-matches : (s t : List ℕ) (p : Pattern) → read-pattern s ≡ some p → length t ≤ 256 → (own : plain.Answer) → Plains s t own
+    → own .found ≡ written-matches p t
+plain-finds-matches = agreement.plain-finds-matches
 
 -- ---- reports in bulk (change request 8)
 
@@ -264,6 +288,9 @@ one-report = one.one-report
 pub one-reports : {xs ys zs : List Session} {ns before rs ts : List ℕ} {n m : ℕ} → ReportsTo xs ns before n ys rs → ReportsTo xs ns before m zs ts
     → (n ≡ m) × (ys ≡ zs) × (rs ≡ ts)
 one-reports = single.one-answer
+
+pub one-plain : {s t : List ℕ} {a b : plain.Answer} → Plains s t a → Plains s t b → a ≡ b
+one-plain = one.one-plain
 
 pub one-server : {image : List ℕ} {i : ℕ} {a b : Lookup} → Serves image i a → Serves image i b → a ≡ b
 one-server = one.one-server

@@ -50,6 +50,7 @@ use Rattle.ifc.proofs.ifc_server.Statement as ifc-server
 use Rattle.ifc.proofs.ifc_information.Statement as ifc-information
 use Rattle.ifc.proofs.ifc_show.Statement as ifc-show
 use Rattle.ifc.proofs.ifc_reports.Statement as ifc-reports
+use Rattle.ifc.proofs.ifc_plain.Statement as ifc-plain
 use Rattle.ifc.proofs.ifc_check.Met.{met as check-met}
 use Rattle.ifc.proofs.ifc_open.Met.{met as open-met}
 use Rattle.ifc.proofs.ifc_advance.Met.{met as advance-met}
@@ -59,6 +60,7 @@ use Rattle.ifc.proofs.ifc_server.Met.{met as server-met}
 use Rattle.ifc.proofs.ifc_information.Met.{met as information-met}
 use Rattle.ifc.proofs.ifc_show.Met.{met as show-met}
 use Rattle.ifc.proofs.ifc_reports.Met.{met as reports-met}
+use Rattle.ifc.proofs.ifc_plain.Met.{met as plain-met}
 
 -- ---- "when exactly does a call not pass the recorder"
 
@@ -129,7 +131,8 @@ pub the-code-meets : {M : Type 1}
     × ifc-information.statement M
     × ifc-show.statement M
     × ifc-reports.statement M
-the-code-meets = (check-met, open-met, advance-met, report-met, list-met, server-met, information-met, show-met, reports-met)
+    × ifc-plain.statement M
+the-code-meets = (check-met, open-met, advance-met, report-met, list-met, server-met, information-met, show-met, reports-met, plain-met)
 
 -- five libraries that would be easy to prove something of meet none of it
 pub wrong-libraries : RuledOut

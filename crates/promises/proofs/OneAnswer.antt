@@ -9,6 +9,8 @@ use Rattle.lookups.specs.declared.Checked.{Checked}
 use Rattle.lookups.specs.declared.Lookup.{Lookup}
 use Rattle.show.specs.Show.{Shows}
 use Rattle.show.specs.declared.Answer.{Answer}
+use Rattle.plain.specs.Plain.{Plains}
+use Rattle.plain.specs.declared.Answer as plain
 use Rattle.session.specs.Session.{Opens, Reports}
 use Rattle.session.specs.declared.Session.{Session}
 use Rattle.session.specs.declared.Opened.{Opened}
@@ -36,6 +38,9 @@ one-information h k = h .answer ∙ sym (k .answer)
 
 pub one-show : {image r : List ℕ} {k : ℕ} {a b : Answer} → Shows image r k a → Shows image r k b → a ≡ b
 one-show h k = h .answer ∙ sym (k .answer)
+
+pub one-plain : {s t : List ℕ} {a b : plain.Answer} → Plains s t a → Plains s t b → a ≡ b
+one-plain h k = h .answer ∙ sym (k .answer)
 
 pub one-open : {case : ℕ} {a b : Opened} → Opens case a → Opens case b → a ≡ b
 one-open h k = h .answer ∙ sym (k .answer)

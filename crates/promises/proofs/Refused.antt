@@ -7,7 +7,7 @@ use Prim.Native.Nat.{ℕ, zero, suc, _≤_, _<_}
 use native.Mathlib.Omega.{arith}
 use mathlib.Core.List.{List, [], _∷_}
 use lib.ListN.{length, getElem?}
-use lib.Dec.{T, leb, eqb, not-T, leb→le, T-not}
+use lib.Dec.{T, leb, ltb, eqb, not-T, leb→le, T-not}
 use Rattle.octets.specs.Lists.{pick, same, total}
 use Rattle.octets.proofs.Tests.{is-false, T-of}
 use Rattle.profile.specs.Image.{Stored, Criterion, Profile, Judged, accepted, refused, Row}
@@ -29,7 +29,14 @@ use Rattle.listing.specs.Listing.{Listing, listed, refuse-list, filled, fill, f
 use Rattle.route.specs.declared.Advanced.{Advanced}
 use Rattle.show.specs.Show.{show-row, show-read, show-judged, show}
 use Rattle.show.specs.declared.Answer.{Answer}
-use Rattle.promises.specs.Refusals.{Line, at-0, First, FirstNumber, numbered, none-holds, this-one, a-later-one, image-line, unreadable, is-register, too-many, missing, no-such, check-lines, open-lines, advance-lines, report-lines, listing-lines, lookup-lines, no-row, show-lines}
+use Rattle.basic.specs.Pattern.{Pattern, meets}
+use Rattle.basic.specs.Reading.{read-pattern}
+use Rattle.place.specs.Place.{place-of}
+use Rattle.place.specs.declared.Place.{Place}
+use Rattle.plain.specs.Plain as plainly
+use Rattle.plain.specs.Plain.{plain-answer}
+use Rattle.plain.specs.declared.Answer as plain
+use Rattle.promises.specs.Refusals.{Line, at-0, First, FirstNumber, numbered, none-holds, this-one, a-later-one, image-line, unreadable, is-register, too-many, missing, no-such, check-lines, open-lines, advance-lines, report-lines, listing-lines, lookup-lines, no-row, show-lines, plain-lines}
 
 -- ---- the first line that holds
 
@@ -249,3 +256,20 @@ shown-first (accepted p) r k o e = ap (λ (q : Option Request). of-shown (show-r
 pub show-refusal : (image r : List ℕ) (k : ℕ) → First (show-lines image r k) (show image r k .refusal) (show image r k .place)
 unfolding show
 show-refusal image r k = as-first (show-lines image r k) (of-shown (show image r k)) (shown-first (judge image) r k (read-request r) refl)
+
+-- ---- the plain matcher
+
+abbrev of-plain : plain.Answer → Refusal
+of-plain a = record { number = a .refusal; place = 0 }
+
+plain-first : (o : Option Pattern) (t : List ℕ) → of-plain (plainly.by-pattern o t) ≡ first-of (at-0 (missing o) 5 ∷ at-0 (ltb 256 (length t)) 17 ∷ [])
+plain-first none t = refl
+plain-first (some p) t = go (place-of meets p t) (ltb 256 (length t))
+  where
+    go : (r : Place) (b : Bool) → of-plain (pick b (plainly.refused 17) (plainly.answered r)) ≡ first-of (at-0 b 17 ∷ [])
+    go r true = refl
+    go r false = refl
+
+pub plain-refusal : (s t : List ℕ) → FirstNumber (plain-lines s t) (plain-answer s t .refusal)
+unfolding plain-answer
+plain-refusal s t = numbered 0 (as-first (plain-lines s t) (of-plain (plain-answer s t)) (plain-first (read-pattern s) t))

@@ -1,11 +1,11 @@
 -- Demand 1: whatever the refusal, nothing is changed, counted or written.
-use mathlib.Core.Bool.{not, _&&_}
+use mathlib.Core.Bool.{Bool, true, false, not, _&&_}
 use mathlib.Core.Option.{Option, none, some}
 use mathlib.Core.Path.{_≡_, refl}
 use Prim.Native.Nat.{ℕ}
 use mathlib.Core.List.{List}
 use lib.ListN.{length, getElem?}
-use lib.Dec.{leb, eqb}
+use lib.Dec.{leb, ltb, eqb}
 use Rattle.octets.specs.Lists.{pick, same, total}
 use Rattle.octets.proofs.Tests.{either}
 use Rattle.profile.specs.Image.{Stored, Criterion, Profile, Judged, accepted, refused, Row}
@@ -24,7 +24,13 @@ use Rattle.route.specs.Advance.{refuse, answer, walk, walk-with, in-session, ad
 use Rattle.listing.specs.Listing.{Listing, listed, refuse-list, filled, fill, fill-with, list-read, list-judged, listing}
 use Rattle.route.specs.declared.Advanced.{Advanced}
 use Rattle.show.specs.Show.{show-row, show-read, show-judged, show}
-use Rattle.promises.specs.Refusals.{AdvanceUnchanged, ListingUnchanged, LookupEmpty, ShowEmpty}
+use Rattle.basic.specs.Pattern.{Pattern, meets}
+use Rattle.basic.specs.Reading.{read-pattern}
+use Rattle.place.specs.Place.{place-of}
+use Rattle.place.specs.declared.Place.{Place}
+use Rattle.plain.specs.Plain as plainly
+use Rattle.plain.specs.Plain.{plain-answer}
+use Rattle.promises.specs.Refusals.{AdvanceUnchanged, ListingUnchanged, LookupEmpty, ShowEmpty, PlainEmpty}
 
 -- ---- opening: "a finished session of case 0"
 
@@ -157,3 +163,17 @@ show-empty-by (accepted p) r k = by (read-request r)
 pub show-empty : (image r : List ℕ) (k : ℕ) → (show image r k .refusal ≡ 0 → ⊥) → ShowEmpty (show image r k)
 unfolding show
 show-empty image r k = show-empty-by (judge image) r k
+
+-- ---- the plain matcher
+
+plain-empty-by : (o : Option Pattern) (t : List ℕ) → (plainly.by-pattern o t .refusal ≡ 0 → ⊥) → PlainEmpty (plainly.by-pattern o t)
+plain-empty-by none t = λ h. record { found = refl; start = refl; size = refl }
+plain-empty-by (some p) t = go (place-of meets p t) (ltb 256 (length t))
+  where
+    go : (r : Place) (b : Bool) → (pick b (plainly.refused 17) (plainly.answered r) .refusal ≡ 0 → ⊥) → PlainEmpty (pick b (plainly.refused 17) (plainly.answered r))
+    go r true h = record { found = refl; start = refl; size = refl }
+    go r false h = absurd (h refl)
+
+pub plain-empty : (s t : List ℕ) → (plain-answer s t .refusal ≡ 0 → ⊥) → PlainEmpty (plain-answer s t)
+unfolding plain-answer
+plain-empty s t = plain-empty-by (read-pattern s) t

@@ -17,6 +17,8 @@ use Rattle.route.specs.declared.Advanced.{Advanced}
 use Rattle.show.specs.Show.{show}
 use Rattle.show.specs.declared.Answer as show
 use Rattle.bulk.specs.Bulk.{Bulk, report-all}
+use Rattle.plain.specs.Plain.{plain-answer}
+use Rattle.plain.specs.declared.Answer as plain
 use Rattle.promises.specs.Agreement.{MayDiffer}
 
 -- every call of the library, with all that it is lent; a session is named by its slot
@@ -30,6 +32,7 @@ pub data Call : Type 0 where
   informing : (image : List ℕ) (criterion : ℕ) → Call
   showing : (image request : List ℕ) (row : ℕ) → Call
   reporting-all : (slots reports refusals : List ℕ) → Call
+  matching : (pattern text : List ℕ) → Call
 
 -- what it answers, every number and every lent place
 pub data Answer : Type 0 where
@@ -41,6 +44,7 @@ pub data Answer : Type 0 where
   looked : Lookup → Answer
   shown : show.Answer → Answer
   reported-all : Bulk → Answer
+  matched : plain.Answer → Answer
 
 abbrev pub Store : Type 0
 Store = ℕ → Session
@@ -72,6 +76,7 @@ step (showing image r k) st = record { answer = shown (show image r k); store = 
 step (reporting-all ks ns before) st =
     let b = report-all (map st ks) ns before in
     record { answer = reported-all b; store = put-all st ks (b .sessions) }
+step (matching p t) st = record { answer = matched (plain-answer p t); store = st }
 
 -- ---- one after the other
 

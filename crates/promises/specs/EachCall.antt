@@ -8,8 +8,9 @@ use Rattle.route.specs.Advance.{advance}
 use Rattle.listing.specs.Listing.{listing}
 use Rattle.show.specs.Show.{show}
 use Rattle.bulk.specs.Bulk.{report-all}
-use Rattle.promises.specs.Calls.{Call, checking, opening, advancing, reporting, listing-it, serving, informing, showing, reporting-all, Answer, checked, opened, advanced, reported, listed, looked, shown, reported-all, Store}
-use Rattle.promises.specs.Refusals.{Line, First, FirstNumber, check-lines, open-lines, advance-lines, report-lines, listing-lines, lookup-lines, show-lines, reports-lines, AdvanceUnchanged, ListingUnchanged, LookupEmpty, ShowEmpty, BulkUnchanged}
+use Rattle.plain.specs.Plain.{plain-answer}
+use Rattle.promises.specs.Calls.{Call, checking, opening, advancing, reporting, listing-it, serving, informing, showing, reporting-all, matching, Answer, checked, opened, advanced, reported, listed, looked, shown, reported-all, matched, Store}
+use Rattle.promises.specs.Refusals.{Line, First, FirstNumber, check-lines, open-lines, advance-lines, report-lines, listing-lines, lookup-lines, show-lines, reports-lines, plain-lines, AdvanceUnchanged, ListingUnchanged, LookupEmpty, ShowEmpty, BulkUnchanged, PlainEmpty}
 
 -- the lines of the table that are met in a call, in their order
 abbrev pub lines : Call → Store → List Line
@@ -22,6 +23,7 @@ lines (serving image i) st = lookup-lines image i
 lines (informing image i) st = lookup-lines image i
 lines (showing image r k) st = show-lines image r k
 lines (reporting-all ks ns before) st = reports-lines (map st ks) ns before
+lines (matching p t) st = plain-lines p t
 
 -- "one fixed refusal number for each fault": that of the first line that holds, and its place where the call answers one
 abbrev pub Refuses : List Line → Answer → Type 0
@@ -33,6 +35,7 @@ Refuses ls (listed l) = First ls (l .answer .refusal) (l .answer .place)
 Refuses ls (looked a) = First ls (a .refusal) (a .place)
 Refuses ls (shown a) = First ls (a .refusal) (a .place)
 Refuses ls (reported-all a) = FirstNumber ls (a .refusal)
+Refuses ls (matched a) = FirstNumber ls (a .refusal)
 
 -- the number that an answer gives; 0 is none
 abbrev pub number : Answer → ℕ
@@ -44,6 +47,7 @@ number (listed l) = l .answer .refusal
 number (looked a) = a .refusal
 number (shown a) = a .refusal
 number (reported-all a) = a .refusal
+number (matched a) = a .refusal
 
 -- "on a refusal the session comes back as it went in, counts are zero, no place of an output list is written"; "A refused opening gives a
 -- finished session of case 0"
@@ -57,3 +61,4 @@ Untouched (serving image i) st = LookupEmpty (server image i)
 Untouched (informing image i) st = LookupEmpty (information image i)
 Untouched (showing image r k) st = ShowEmpty (show image r k)
 Untouched (reporting-all ks ns before) st = BulkUnchanged (map st ks) before (report-all (map st ks) ns before)
+Untouched (matching p t) st = PlainEmpty (plain-answer p t)

@@ -5,7 +5,7 @@ use mathlib.Core.Path.{_≡_}
 use Prim.Native.Nat.{ℕ}
 use mathlib.Core.List.{List, [], _∷_}
 use lib.ListN.{length, getElem?}
-use lib.Dec.{T, leb, eqb}
+use lib.Dec.{T, leb, ltb, eqb}
 use Rattle.octets.specs.Lists.{same}
 use Rattle.profile.specs.Image.{Judged, accepted, refused}
 use Rattle.profile.specs.Judging.{judge}
@@ -17,7 +17,9 @@ use Rattle.rows.specs.Rows.{REGISTER}
 use Rattle.rows.specs.declared.Given.{Given}
 use Rattle.fitting.specs.Fitting.{criterion-fits}
 use Rattle.show.specs.declared.Answer.{Answer}
+use Rattle.basic.specs.Reading.{read-pattern}
 use Rattle.bulk.specs.Bulk.{fits, Bulk}
+use Rattle.plain.specs.declared.Answer as plain
 use Rattle.listing.specs.Listing.{Listing, listed}
 use Rattle.route.specs.declared.Advanced.{Advanced}
 
@@ -152,3 +154,15 @@ pub record ShowEmpty (a : Answer) : Type 0 where
 pub record BulkUnchanged (xs : List Session) (before : List ℕ) (b : Bulk) : Type 0 where
   pub sessions : b .sessions ≡ xs
   pub refusals : b .refusals ≡ before
+
+-- ---- the plain matcher (change request 7)
+
+-- "Refusals: 5, then 17 for a longer text."
+abbrev pub plain-lines : List ℕ → List ℕ → List Line
+plain-lines s t = at-0 (missing (read-pattern s)) 5 ∷ at-0 (ltb 256 (length t)) 17 ∷ []
+
+-- its numbers, where it refuses
+pub record PlainEmpty (a : plain.Answer) : Type 0 where
+  pub found : a .found ≡ false
+  pub start : a .start ≡ 0
+  pub size : a .size ≡ 0

@@ -77,6 +77,11 @@ pub fn reports(label: &str, sessions: &[Session], reports: &[u32], refusals: usi
     }
 }
 
+/// A pattern stands where the other calls have the image, a text where they have the request.
+pub fn plain(label: &str, pattern: &[u8], text: &[u8]) -> Case {
+    case(Call::Plain, label, pattern, text, &[])
+}
+
 pub const READY: Session = Session { case: 0, state: 0, forwarded: 0, last: 0, handling: 0 };
 
 /// Ready again, with something in every number that a refusal must leave alone.

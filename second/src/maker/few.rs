@@ -1,5 +1,6 @@
 //! A part of the made cases, small enough to be kept as a file: the shortest of each kind, so that none is
-//! missing, and every so many of those that are not long. Those of show and of reports in bulk are not among them: crates/vectors does not run these.
+//! missing, and every so many of those that are not long. Those of show, plain and reports in bulk are not among them:
+//! crates/vectors does not run these.
 
 use super::cases;
 use crate::case::{answer, Call, Case};
@@ -17,7 +18,7 @@ fn kind(case: &Case) -> Kind {
         Call::List => answer.numbers[3].min(2),
         Call::Information => answer.numbers[2],
         Call::Report => answer.numbers[1].min(5),
-        Call::Check | Call::Open | Call::Server | Call::Show | Call::Reports => 0,
+        Call::Check | Call::Open | Call::Server | Call::Show | Call::Reports | Call::Plain => 0,
     };
     (case.call as u32, answer.number, which)
 }
@@ -30,7 +31,7 @@ fn size(case: &Case) -> usize {
 /// most `most` bytes.
 pub fn few(seed: u64, count: usize, every: usize, most: usize) -> Vec<Case> {
     let mut cases = cases(seed, count);
-    cases.retain(|case| !matches!(case.call, Call::Show | Call::Reports));
+    cases.retain(|case| !matches!(case.call, Call::Show | Call::Reports | Call::Plain));
     let mut shortest: BTreeMap<Kind, usize> = BTreeMap::new();
     for (place, case) in cases.iter().enumerate() {
         let best = shortest.entry(kind(case)).or_insert(place);

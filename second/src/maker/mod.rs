@@ -10,6 +10,7 @@ pub mod lean;
 pub mod masses;
 pub mod orders;
 pub mod patterns;
+pub mod plains;
 pub mod points;
 pub mod random;
 pub mod requests;
@@ -33,6 +34,7 @@ pub fn fixed() -> Vec<Case> {
     cases.extend(masses::cases());
     cases.extend(shows::of_patterns());
     cases.extend(bulks::cases());
+    cases.extend(plains::of_patterns());
     cases
 }
 
@@ -56,12 +58,13 @@ pub fn random(seed: u64, count: usize) -> Vec<Case> {
     cases
 }
 
-/// All fixed cases, then `count` random ones, then a quarter as many of show, and a tenth as many of reports in bulk.
+/// All fixed cases, then `count` random ones, then a quarter as many of show and of plain, and a tenth as many of reports in bulk.
 pub fn cases(seed: u64, count: usize) -> Vec<Case> {
     let mut cases = fixed();
     cases.extend(random(seed, count));
     cases.extend(shows::random(seed, count / 4));
     cases.extend(bulks::random(seed, count / 10));
+    cases.extend(plains::random(seed, count / 4));
     cases
 }
 

@@ -5,6 +5,7 @@ mod descriptions;
 mod fitting;
 mod image;
 mod names;
+mod plain;
 mod shown;
 
 use super::boundaries::{pattern_image, shapes};
@@ -26,6 +27,7 @@ pub fn cases() -> Vec<Case> {
     cases.extend(wrong_ways());
     cases.extend(worked_trigger());
     cases.extend(shown::cases());
+    cases.extend(plain::cases());
     cases
 }
 
