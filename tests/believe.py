@@ -57,6 +57,9 @@ table = re.findall(r"^\| `(crates/\S+)` \| (\d+) \|", read("docs/STATEMENTS.md")
 for path, count in table:
     if path not in files or int(count) != lines(path):
         wrong.append(f"docs/STATEMENTS.md says {count} lines of {path}: {lines(path) if path in files else 'no such file to believe'}")
+for place, (path, _) in enumerate(table):
+    for later in sorted(brought(path) & {p for p, _ in table[place + 1:]} if path in files else []):
+        wrong.append(f"docs/STATEMENTS.md, reading order: {path} stands before {later}, which it brings in")
 for path in sorted(files - {path for path, _ in table}):
     wrong.append(f"docs/STATEMENTS.md, reading order, lacks {path} ({lines(path)} lines)")
 

@@ -4,6 +4,7 @@ pub mod Classes
 pub mod Each
 pub mod Equal
 pub mod Kept
+pub mod OneAnswer
 pub mod Options
 pub mod Table
 pub mod Tests

@@ -1,5 +1,6 @@
 pub mod Answering
 pub mod Counting
+pub mod OneAnswer
 pub mod PartsCounting
 pub mod Pieces
 pub mod Placing

@@ -3,6 +3,7 @@ pub mod Found
 pub mod Gives
 pub mod ImageLaws
 pub mod Keeping
+pub mod Lockstep
 pub mod Matching
 pub mod Opened
 pub mod Placed

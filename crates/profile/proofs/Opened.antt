@@ -74,7 +74,7 @@ pub record Opened (s : List ℕ) (j : Judgement) : Type 0 where
   pub end : layout s .criteria + 15 * layout s .«criterion_count» ≡ length s
 
 refused-not : (n : ℕ) {place : ℕ} (s : List ℕ) → judge s ≡ refused n place → n ≡ 0 → ⊥
-refused-not n {place} s e z = let h = placed-low s n place e in omega (arith, h .1 .0)
+refused-not n {place} s e z = let h = placed-low s n place e in omega (arith, h .1)
 
 pub opened : (s : List ℕ) (j : Judgement) → Judges s j → j .refusal ≡ 0 → Opened s j
 unfolding judgement

@@ -60,7 +60,7 @@ module _ (x : Session) (image r : List ℕ) (t : T (possible x && eqb (x .state)
 
   judged-answering : (j : Judged) → judge image ≡ j → IfAnswered x image r (advance-judged x j r)
   judged-answering (accepted p) e = read-answering p e (read-request r) refl
-  judged-answering (refused n place) e = λ h. let low : 0 < n = placed-low image n place e .1 .0 in absurd (omega arith)
+  judged-answering (refused n place) e = λ h. let low : 0 < n = placed-low image n place e .1 in absurd (omega arith)
 
 pub answering : (x : Session) (image r : List ℕ) → advance x image r .refusal ≡ 0 → Answering x image r
 unfolding advance

@@ -1,17 +1,18 @@
 -- The page behind `Main`: what details its statements, call by call.
 use mathlib.Core.Bool.{true}
-use mathlib.Core.Path.{_≡_, sym, ap, _∙_}
+use mathlib.Core.Path.{_≡_, refl, sym, ap, _∙_}
 use mathlib.Core.Logic.{_↔_}
-use Prim.Native.Nat.{ℕ, _≤_, _<_, _^_}
+use Prim.Native.Nat.{ℕ, _-_, _*_, _≤_, _<_, _^_}
 use mathlib.Core.List.{List, List·Memᴰ, [], _∷_}
-use lib.ListN.{length, getElem?}
+use lib.ListN.{length, take, getElem?}
 use mathlib.Core.Option.{none, some, Option}
 use Rattle.basic.specs.Pattern.{Pattern, meets}
 use Rattle.basic.specs.Reading.{read-pattern}
 use Rattle.pattern.specs.Matching.{matches, written-matches, name-matches}
 use Rattle.profile.specs.Image.{Stored, Criterion, Profile, accepted, refused, header, description}
 use Rattle.profile.specs.Judging.{judge}
-use Rattle.profile.proofs.Placed.{placed-low}
+use Rattle.profile.specs.Reader as reader
+use Rattle.profile.proofs.Placed.{placed-low, one-long, long-one, two-at-end, three-exactly, six-earlier}
 use Rattle.lookups.specs.Lookups.{check, server, information, no-part, the-part, part-of, Checks, Serves, Informs}
 use Rattle.lookups.specs.declared.Checked.{Checked}
 use Rattle.lookups.specs.declared.Lookup.{Lookup}
@@ -42,7 +43,6 @@ use Rattle.listing.specs.declared.Listed.{Listed}
 use Rattle.route.proofs.Trials as trials
 use Rattle.listing.proofs.Trials as list-trials
 use Rattle.promises.specs.Agreement.{MayDiffer, agreeing}
-use Rattle.promises.specs.Calls.{step}
 use Rattle.promises.specs.Common as common
 use Rattle.promises.specs.Passed.{Step, Walk, Fits, Asks, NoneAsked, Turn, PassedAt, WayPast}
 use Rattle.promises.specs.Refusals.{Line, First, FirstNumber, check-lines, open-lines, advance-lines, listing-lines, report-lines, lookup-lines, AdvanceUnchanged, ListingUnchanged, LookupEmpty, show-lines, ShowEmpty, reports-lines, BulkUnchanged, plain-lines, PlainEmpty}
@@ -59,7 +59,6 @@ use Rattle.promises.proofs.Next.{route-iff}
 use Rattle.promises.proofs.PassedBy as passed-by
 use Rattle.promises.proofs.Refused.{first-one, check-refusal, open-refusal, advance-refusal, listing-refusal, report-refusal, server-refusal, information-refusal, show-refusal, plain-refusal}
 use Rattle.promises.proofs.Unchanged as unchanged
-use Rattle.promises.specs.EachCall.{lines, number}
 use Rattle.promises.specs.Pairs.{invite, under, line-m, typed}
 
 -- ---- "when exactly does a call not pass the recorder"
@@ -120,7 +119,26 @@ one-refusal = first-one
 
 -- an image fault is one of the numbers 1 to 6; which of them comes first is the reading order of profile `Judging.profile`
 pub image-numbers : (image : List ℕ) (n place : ℕ) → judge image ≡ refused n place → (place ≤ 32768) × (0 < n) × (n ≤ 6)
-image-numbers image n place e = let r = placed-low image n place e in (r .0, r .1 .0, r .1 .1)
+image-numbers image n place e = placed-low image n place e
+
+-- number 1 exactly if the image is longer than 32,768 bytes, and then at place 0
+pub number-1-exactly : (image : List ℕ) (place : ℕ) → (judge image ≡ refused 1 place) ↔ ((32768 < length image) × (place ≡ 0))
+number-1-exactly image place =
+    (λ e. one-long image 1 place e refl, λ h. long-one image (h .0) ∙ ap (λ (p : ℕ). refused 1 p) (sym (h .1)))
+
+-- "Number 2 is placed at the image's length"
+pub number-2-at-the-end : (image : List ℕ) (place : ℕ) → judge image ≡ refused 2 place → place ≡ length image
+number-2-at-the-end image place e = two-at-end image 2 place e refl
+
+-- number 3 at a place exactly if the bytes before it are an image that is accepted, and more follow, within the limit
+pub number-3-exactly : (image : List ℕ) (place : ℕ)
+    → (judge image ≡ refused 3 place) ↔ ((place < length image) × (length image ≤ 32768) × ((p : Profile) × (judge (take place image) ≡ accepted p)))
+number-3-exactly = three-exactly
+
+-- "Number 6 is placed at the first criterion whose number stands earlier too": the four bytes there are those of one k criteria before it
+pub number-6-stands-earlier : (image : List ℕ) (place : ℕ) → judge image ≡ refused 6 place
+    → (k : ℕ) × (0 < k) × (15 * k ≤ place) × (reader.number 4 image (place - 15 * k) 0 ≡ reader.number 4 image place 0)
+number-6-stands-earlier image place e = six-earlier image 6 place e refl
 
 -- ---- demand 1: what a refusal leaves
 

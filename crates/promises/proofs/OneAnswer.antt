@@ -4,6 +4,8 @@ use mathlib.Core.Path.{_≡_, sym, ap₂, _∙_}
 use Prim.Native.Nat.{ℕ}
 use mathlib.Core.List.{List}
 use Rattle.profile.specs.Image.{Row, Criterion}
+use Rattle.profile.specs.Inner.Kept.{Judges}
+use Rattle.profile.specs.declared.Judgement.{Judgement}
 use Rattle.lookups.specs.Lookups.{Checks, Serves, Informs}
 use Rattle.lookups.specs.declared.Checked.{Checked}
 use Rattle.lookups.specs.declared.Lookup.{Lookup}
@@ -56,6 +58,9 @@ pub one-listing : {g : Given} {image r before after after′ : List ℕ} {a b : 
 one-listing h k = (h .answer ∙ sym (k .answer), h .places ∙ sym (k .places))
 
 -- ---- between our crates
+
+pub one-judgement : {s : List ℕ} {a b : Judgement} → Judges s a → Judges s b → a ≡ b
+one-judgement h k = h .answer ∙ sym (k .answer)
 
 pub one-reading : {s starts colons starts′ starts″ colons′ colons″ : List ℕ} {a b : Reading} → Read s starts colons starts′ colons′ a → Read s starts colons starts″ colons″ b
     → (a ≡ b) × (starts′ ≡ starts″) × (colons′ ≡ colons″)
