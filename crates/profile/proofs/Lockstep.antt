@@ -325,17 +325,20 @@ module _ (s : List ℕ) (p : ℕ) (inside : p ≤ length s) where
         then-good _ I at (one l s at) (one l t at) (λ a k. entries one n (l ++ (a ∷ [])) s k) (λ a k. entries one n (l ++ (a ∷ [])) t k) (step l at h i) (λ a k l1 m e.
         entries-good n (l ++ (a ∷ [])) k m e)
 
+  -- what follows from what is given
+  good-so : {A : Type 0} (P Q : A → ℕ → Type 0) (at : ℕ) (x y : Got A) → ((a : A) (k : ℕ) → P a k → Q a k) → Good at P x y → Good at Q x y
+  good-so P Q at x y so g = record { ends = ends-so x (g .ends); both = g .both }
+    where
+      ends-so : (z : Got _) → Ends P at z → Ends Q at z
+      ends-so (got a k) e = (e .0, e .1, so a k (e .2))
+      ends-so (fault n place) e = e
+
   -- each by itself
   each-good : {A : Type 0} (P : A → Type 0) (one : List A → Reader A) → ((l : List A) (k : ℕ) → k ≤ length s → Good k (λ a j. P a) (one l s k) (one l t k))
       → (n at : ℕ) → at ≤ length s → Good at (λ l k. Each P l) (entries one n [] s at) (entries one n [] t at)
-  each-good P one step n at h = entries-good (λ l k. Each P l) one (λ l k m e. more l k e (one l s k) (one l t k) (step l k m)) n [] at h tt
-    where
-      ends-more : (l : List _) (k : ℕ) → Each P l → (x : Got _) → Ends (λ a j. P a) k x → Ends (λ a j. Each P (l ++ (a ∷ []))) k x
-      ends-more l k e (got a j) d = (d .0, d .1, each-snoc P l a e (d .2))
-      ends-more l k e (fault n place) d = d
-
-      more : (l : List _) (k : ℕ) → Each P l → (x y : Got _) → Good k (λ a j. P a) x y → Good k (λ a j. Each P (l ++ (a ∷ []))) x y
-      more l k e x y g = record { ends = ends-more l k e x (g .ends); both = g .both }
+  each-good P one step n at h =
+      entries-good (λ l k. Each P l) one
+      (λ l k m e. good-so (λ a j. P a) (λ a j. Each P (l ++ (a ∷ []))) k (one l s k) (one l t k) (λ a j q. each-snoc P l a e q) (step l k m)) n [] at h tt
 
   rows-have-good : (l : List Member) (r : ℕ) (rows : List Row) → Each Stands rows → (at : ℕ) → at ≤ length s → Good at Any (all-rows-have l r rows s at) (all-rows-have l r rows t at)
   unfolding all-rows-have
@@ -352,26 +355,18 @@ module _ (s : List ℕ) (p : ℕ) (inside : p ≤ length s) where
       let there : at + 15 - 15 * suc k ≡ at - 15 * k = omega (arith, low) in
       ((suc k, omega arith, omega (arith, low), ap (λ (i : ℕ). number 4 s i 0) there ∙ same-k), later at l (e .1))
 
+  one-more : (l : List Criterion) (k : ℕ) → Each (Before k) l → (c : Criterion) (j : ℕ) → (c .priority ≡ number 4 s k 0) × (j ≡ k + 15) → Each (Before j) (l ++ (c ∷ []))
+  one-more l k e c j (q, w) =
+      let there : k + 15 - 15 * 1 ≡ k = omega arith in
+      subst (λ (i : ℕ). Each (Before i) (l ++ (c ∷ []))) (sym w)
+      (each-snoc (Before (k + 15)) l c (later k l e) (1, omega arith, omega arith, ap (λ (i : ℕ). number 4 s i 0) there ∙ sym q))
+
   criteria-good : (strings : List Stored) (n-rows n at : ℕ) → at ≤ length s
       → Good at (λ l k. Each (Before k) l) (entries (criterion strings n-rows) n [] s at) (entries (criterion strings n-rows) n [] t at)
   criteria-good strings n-rows n at h =
       entries-good (λ l k. Each (Before k) l) (criterion strings n-rows)
-      (λ l k m e. more l k e (criterion strings n-rows l s k) (criterion strings n-rows l t k) (criterion-good strings n-rows l k m e)) n [] at h tt
-    where
-      one-more : (l : List Criterion) (k : ℕ) → Each (Before k) l → (c : Criterion) (j : ℕ) → c .priority ≡ number 4 s k 0 → j ≡ k + 15 → Each (Before j) (l ++ (c ∷ []))
-      one-more l k e c j q w =
-          let there : k + 15 - 15 * 1 ≡ k = omega arith in
-          subst (λ (i : ℕ). Each (Before i) (l ++ (c ∷ []))) (sym w)
-          (each-snoc (Before (k + 15)) l c (later k l e) (1, omega arith, omega arith, ap (λ (i : ℕ). number 4 s i 0) there ∙ sym q))
-
-      ends-more : (l : List Criterion) (k : ℕ) → Each (Before k) l → (x : Got Criterion)
-          → Ends (λ c j. (c .priority ≡ number 4 s k 0) × (j ≡ k + 15)) k x → Ends (λ c j. Each (Before j) (l ++ (c ∷ []))) k x
-      ends-more l k e (got c j) d = (d .0, d .1, one-more l k e c j (d .2 .0) (d .2 .1))
-      ends-more l k e (fault n place) d = d
-
-      more : (l : List Criterion) (k : ℕ) → Each (Before k) l → (x y : Got Criterion)
-          → Good k (λ c j. (c .priority ≡ number 4 s k 0) × (j ≡ k + 15)) x y → Good k (λ c j. Each (Before j) (l ++ (c ∷ []))) x y
-      more l k e x y g = record { ends = ends-more l k e x (g .ends); both = g .both }
+      (λ l k m e. good-so (λ c j. (c .priority ≡ number 4 s k 0) × (j ≡ k + 15)) (λ c j. Each (Before j) (l ++ (c ∷ []))) k
+      (criterion strings n-rows l s k) (criterion strings n-rows l t k) (one-more l k e) (criterion-good strings n-rows l k m e)) n [] at h tt
 
   -- ---- the whole
 

@@ -85,7 +85,7 @@ module _ (x : Session) (p : Profile) (q : Request) where
   none-routes a (forwarding f) h = absurd (h (f .chosen-one) (f .candidate))
   none-routes a (routing r) h = r .outcome
 
--- "normal routing exactly if there is none"
+-- normal routing exactly if there is none
 pub route-iff : (x : Session) (image r : List ℕ) (p : Profile) (q : Request) → Answers x image r p q
     → (advance x image r .outcome ≡ 2) ↔ ((n : Numbered) → Candidate x p q n → ⊥)
 route-iff x image r p q h =

@@ -80,7 +80,7 @@ abbrev pub no-row : Judged → ℕ → Bool
 no-row (refused n place) k = false
 no-row (accepted p) k = missing (getElem? (p .rows) k)
 
--- ---- the orders: "10, image faults, 7, 11, 8, 9, 12; for a lookup 13 after the image"
+-- ---- the orders: "10, image faults .., 7, 11, 8, 9, 12; for a lookup 13 after the image"
 
 abbrev pub check-lines : List ℕ → List Line
 check-lines image = image-line (judge image) ∷ []

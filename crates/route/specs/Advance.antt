@@ -74,7 +74,7 @@ unfoldable pub walk : Session → Profile → Request → Advanced
 unfolding walk-with criterion-fits criterion-trials
 walk x p q = walk-with (criterion-fits q (in-session x) p) (criterion-trials q (in-session x) p) x (p .criteria)
 
--- ---- "Order: 10, image faults, 7, 11"
+-- ---- "Order: 10, image faults .., 7, 11"
 
 -- the request, then its method
 abbrev pub advance-read : Session → Profile → Option Request → Advanced

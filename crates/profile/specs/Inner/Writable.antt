@@ -32,7 +32,8 @@ names-or-none strs purpose i = eqb i absent || names strs purpose i
 abbrev pub RightString : List ℕ → Type 0
 RightString t = length t ≤ 1024
 
--- "first: string index, or for kind 3 the case 0..3; second: Content string index or 65535 for absent, always 65535 for kinds 0, 1, 3"
+-- "first, 2 bytes: string index, or for kind 3 the case 0..3; second, 2 bytes: Content string index or 65535 for absent, always 65535 for
+-- kinds 0, 1, 3"
 pub record RightRow (strs : List (List ℕ)) (r : Row) : Type 0 where
   pub negated : r .negated ≤ 1
   pub kind : r .kind ≤ 4
