@@ -4,7 +4,8 @@ The definitions that an exported contract (crates/ifc/src/lib.rt) or a statement
 forms that only contracts between our crates cite stand in crates/CRATE/specs/Inner/. This test fails if a reader's file brings in an
 inner one, if one is reached from neither, or if docs/STATEMENTS.md, "Reading order", does not have each with its count of lines: those
 that are neither empty nor a comment nor a use line. The table of inner forms of docs/DECISIONS.md has every inner file, each with a law
-that exists."""
+that exists. Crates that neither ifc nor promises uses, directly or through others by crates.txt, are left out until one of the two does:
+groundwork that no caller meets yet, and what tests alone use."""
 import glob
 import os
 import re
@@ -43,7 +44,24 @@ def reached(roots):
     return found
 
 
-files = {p for p in glob.glob("crates/*/specs/*.antt") if reader(p)}
+def used(roots):
+    """The crates that these use, and they themselves."""
+    below = dict(line.split(":") for line in read("crates.txt").split("\n") if ":" in line and not line.startswith("#"))
+    found, left = set(), set(roots)
+    while left:
+        crate = left.pop()
+        found.add(crate)
+        left |= set(below.get(crate, "").split()) - found
+    return found
+
+
+def counted(pattern):
+    """The files of the crates that ifc or promises uses."""
+    return {p for p in glob.glob(pattern) if p.split("/")[1] in CRATES}
+
+
+CRATES = used(["ifc", "promises"])
+files = {p for p in counted("crates/*/specs/*.antt") if reader(p)}
 for path in sorted(files | set(PAGES)):
     for inner in sorted(p for p in brought(path) if "/specs/Inner/" in p):
         wrong.append(f"{path} brings in {inner}")
@@ -64,7 +82,6 @@ for path in sorted(files - {path for path, _ in table}):
     wrong.append(f"docs/STATEMENTS.md, reading order, lacks {path} ({lines(path)} lines)")
 
 
-
 def named(cell):
     """(crate, name) of a cell such as: octets `A`, `B.c`; pattern `D`"""
     crate = None
@@ -74,7 +91,7 @@ def named(cell):
             yield crate, name
 
 
-inner = {p for p in glob.glob("crates/*/specs/Inner/*.antt")}
+inner = counted("crates/*/specs/Inner/*.antt")
 listed = set()
 for row in re.findall(r"^\| (.+) \|$", read("docs/DECISIONS.md").split("| Inner |")[1].split("\n\n")[0], re.M):
     forms, _, laws = row.split(" | ")
@@ -84,7 +101,7 @@ for row in re.findall(r"^\| (.+) \|$", read("docs/DECISIONS.md").split("| Inner 
         path = f"crates/{c}/proofs/{module}.antt"
         if not os.path.exists(path) or name and not re.search(rf"^ *pub {re.escape(name)} ", read(path), re.M):
             wrong.append(f"docs/DECISIONS.md: the law {c} {law} does not exist")
-for path in sorted(inner ^ listed):
+for path in sorted(inner - listed | {p for p in listed if not os.path.exists(p)}):
     wrong.append(f"{path} and the table of inner forms in docs/DECISIONS.md: one lacks it")
 
 for w in wrong:

@@ -1,0 +1,6 @@
+pub mod Better
+pub mod Languages
+pub mod Made
+pub mod Meaning
+pub mod Once
+pub mod Sound

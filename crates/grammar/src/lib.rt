@@ -1,0 +1,1 @@
+// Definitions and theorems only: texts that a grammar says, and reading them.
