@@ -3,4 +3,5 @@ pub mod Languages
 pub mod Made
 pub mod Meaning
 pub mod Once
+pub mod Shifted
 pub mod Sound

@@ -1,0 +1,16 @@
+pub mod Between
+pub mod Choosing
+pub mod Closing
+pub mod Elements
+pub mod Leading
+pub mod Lettered
+pub mod Passing
+pub mod PointLaws
+pub mod Runs
+pub mod Scanning
+pub mod Starting
+pub mod Subset
+pub mod Turning
+pub mod Unique
+pub mod Within
+pub mod Words

@@ -1,0 +1,3 @@
+pub mod Criteria
+pub mod Inner
+pub mod Table
