@@ -1,0 +1,4 @@
+pub mod Answer
+pub mod Composing
+pub mod Examples
+pub mod Inner
