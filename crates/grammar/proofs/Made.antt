@@ -9,10 +9,10 @@ use lib.ListN.{length}
 use Rattle.octets.specs.Lists.{pick}
 use Rattle.grammar.specs.Grammar.{Grammar, word, one, span, _then_, _or_, option, many, into, ended}
 use Rattle.grammar.specs.Reading.{Read, read-as, wrong, twice, later, better, expect, expect-one, up-to, repeat, read}
-use Rattle.grammar.specs.Inner.Made.{made}
+use Rattle.grammar.specs.Inner.Made.{made, forget}
 
 module _ {R Q : Type 0} (how : R → Q) where
-  made-better : (x y : Read R) → made how (better x y) ≡ better (made how x) (made how y)
+  pub made-better : (x y : Read R) → made how (better x y) ≡ better (made how x) (made how y)
   made-better (read-as r) (read-as q) = refl
   made-better (read-as r) (wrong n) = refl
   made-better (read-as r) twice = refl
@@ -21,7 +21,7 @@ module _ {R Q : Type 0} (how : R → Q) where
   made-better (wrong m) twice = refl
   made-better twice y = refl
 
-  made-later : (x : Read R) → made how (later x) ≡ later (made how x)
+  pub made-later : (x : Read R) → made how (later x) ≡ later (made how x)
   made-later (read-as r) = refl
   made-later (wrong n) = refl
   made-later twice = refl
@@ -34,7 +34,7 @@ module _ {R Q : Type 0} (how : R → Q) where
   made-step true x = made-later x
   made-step false x = refl
 
-  made-expect : (w : List ℕ) (k : List ℕ → Read R) (s : List ℕ) → made how (expect w k s) ≡ expect w (λ u. made how (k u)) s
+  pub made-expect : (w : List ℕ) (k : List ℕ → Read R) (s : List ℕ) → made how (expect w k s) ≡ expect w (λ u. made how (k u)) s
   made-expect [] k s = refl
   made-expect (c ∷ w) k [] = refl
   made-expect (c ∷ w) k (b ∷ s) =
@@ -44,7 +44,7 @@ module _ {R Q : Type 0} (how : R → Q) where
   made-one p k [] = refl
   made-one p k (b ∷ s) = made-step (p b) (k b s)
 
-  made-up-to : (w p : List ℕ) (k : List ℕ → Read R) (s : List ℕ) → made how (up-to w p k s) ≡ up-to w p (λ u. made how (k u)) s
+  pub made-up-to : (w p : List ℕ) (k : List ℕ → Read R) (s : List ℕ) → made how (up-to w p k s) ≡ up-to w p (λ u. made how (k u)) s
   made-up-to w p k [] = refl
   made-up-to w p k (b ∷ s) =
       made-later (pick (ended w (b ∷ p)) (k s) (up-to w (b ∷ p) k s))
@@ -77,3 +77,20 @@ module _ {R Q : Type 0} (how : R → Q) where
       ∙ ap (λ (x : Read Q). better x (made how (k none s))) (made-read g (λ a. k (some a)) s)
   made-read (many g) k s = made-repeat (read g) (read g) (λ l t. made-read g l t) (suc (length s)) k s
   made-read (into f g) k s = made-read g (λ a. k (f a)) s
+
+-- ---- made twice, made the same, forgotten
+
+pub made-made : {R Q P : Type 0} (f : Q → P) (g : R → Q) (x : Read R) → made f (made g x) ≡ made (λ r. f (g r)) x
+made-made f g (read-as r) = refl
+made-made f g (wrong n) = refl
+made-made f g twice = refl
+
+pub made-same : {R : Type 0} (x : Read R) → made (λ r. r) x ≡ x
+made-same (read-as r) = refl
+made-same (wrong n) = refl
+made-same twice = refl
+
+pub forget-made : {R Q : Type 0} (f : R → Q) (x : Read R) → forget (made f x) ≡ forget x
+forget-made f (read-as r) = refl
+forget-made f (wrong n) = refl
+forget-made f twice = refl

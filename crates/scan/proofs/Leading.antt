@@ -12,11 +12,11 @@ use Rattle.octets.proofs.Table as table
 use Rattle.cuts.specs.Inner.Searching.{first}
 use Rattle.grammar.specs.Grammar.{one, many}
 use Rattle.grammar.specs.Reading.{wrong, later, better, expect, expect-one}
-use Rattle.grammar.specs.Inner.Made.{Only, shifted}
+use Rattle.grammar.specs.Inner.Made.{Only, shifted, forget}
 use Rattle.grammar.proofs.Sound.{sound}
 use Rattle.scan.specs.Table.{blank, digit}
 use Rattle.scan.specs.Inner.Points.{firsts, starts, nexts, letters, word-at, choices, first-word, word-count, class-of, run, kind-of}
-use Rattle.scan.specs.Inner.Rests.{pass, at-end, rest, top}
+use Rattle.scan.specs.Inner.Rests.{pass, at-end, plainly, top}
 use Rattle.scan.specs.Inner.Turns.{by-words}
 use Rattle.scan.proofs.Passing.{pass-run, Shut}
 
@@ -58,7 +58,7 @@ shut-words p k i (suc n) t b u e =
     (shut-words p k (suc i) n (right (not (empty (word-at i)) && not (p (getD (word-at i) 0 0))) (heads-off p (suc i) n) t) b u e)
 
 pub shut : (q : ℕ) → q < 42 → Shut (class-of (kind-of q)) (by-words q)
-shut q h = shut-words (class-of (kind-of q)) rest (first-word q) (word-count q) (heads q h)
+shut q h = shut-words (class-of (kind-of q)) plainly (first-word q) (word-count q) (heads q h)
 
 -- at the end of the text none stands
 word-none : (w : List ℕ) (k : List ℕ → Only) (p : ℕ → Bool) → T (not (empty w) && not (p (getD w 0 0))) → expect w k [] ≡ wrong 0
@@ -74,36 +74,36 @@ words-none p k i (suc n) t =
     (words-none p k (suc i) n (right (not (empty (word-at i)) && not (p (getD (word-at i) 0 0))) (heads-off p (suc i) n) t))
 
 pub none-at-end : (q : ℕ) → q < 42 → by-words q [] ≡ wrong 0
-none-at-end q h = words-none (class-of (kind-of q)) rest (first-word q) (word-count q) (heads q h)
+none-at-end q h = words-none (class-of (kind-of q)) plainly (first-word q) (word-count q) (heads q h)
 
 -- ---- the law of a point
 
 -- behind what is passed over: a word, or at the top the end
 abbrev pub behind : ℕ → List ℕ → Only
-behind q u = pick (eqb q 0) (better (by-words q u) (at-end u)) (by-words q u)
+behind q u = pick (eqb q 0) (better (by-words q u) (forget (at-end u))) (by-words q u)
 
 abbrev pub passed : ℕ → List ℕ → ℕ
 passed q t = run (class-of (kind-of q)) t
 
 pub record Law (q : ℕ) : Type 0 where
-  pub leads : (t : List ℕ) → (kind-of q ≡ 1 → digit (getD t 0 0) ≡ true) → rest q t ≡ shifted (passed q t) (behind q (drop (passed q t) t))
-  pub refuses : (t : List ℕ) → kind-of q ≡ 1 → digit (getD t 0 0) ≡ false → rest q t ≡ wrong 0
+  pub leads : (t : List ℕ) → (kind-of q ≡ 1 → digit (getD t 0 0) ≡ true) → plainly q t ≡ shifted (passed q t) (behind q (drop (passed q t) t))
+  pub refuses : (t : List ℕ) → kind-of q ≡ 1 → digit (getD t 0 0) ≡ false → plainly q t ≡ wrong 0
 
 -- a point that passes over blanks or text
 pub many-law : (q : ℕ) → q < 42 → (p : ℕ → Bool) → T (sound (one p)) → class-of (kind-of q) ≡ p → (kind-of q ≡ 1 → ⊥) → eqb q 0 ≡ false
-    → ((s : List ℕ) → rest q s ≡ pass (many (one p)) (by-words q) s) → Law q
+    → ((s : List ℕ) → plainly q s ≡ pass (many (one p)) (by-words q) s) → Law q
 many-law q h p sp c n z e = record {
   leads = λ t d.
       let f : Shut p (by-words q) = subst (λ (x : ℕ → Bool). Shut x (by-words q)) c (shut q h) in
       e t ∙ pass-run p sp (by-words q) f t
       ∙ ap (λ (x : ℕ → Bool). shifted (run x t) (by-words q (drop (run x t) t))) (sym c)
-      ∙ ap (λ (b : Bool). shifted (passed q t) (pick b (better (by-words q (drop (passed q t) t)) (at-end (drop (passed q t) t))) (by-words q (drop (passed q t) t)))) (sym z);
+      ∙ ap (λ (b : Bool). shifted (passed q t) (pick b (better (by-words q (drop (passed q t) t)) (forget (at-end (drop (passed q t) t)))) (by-words q (drop (passed q t) t)))) (sym z);
   refuses = λ t k. absurd (n k);
 }
 
 number-first : (q : ℕ) → q < 42 → class-of (kind-of q) ≡ digit → eqb q 0 ≡ false
-    → ((s : List ℕ) → rest q s ≡ expect-one digit (λ b. pass (many (one digit)) (by-words q)) s)
-    → (t : List ℕ) → digit (getD t 0 0) ≡ true → rest q t ≡ shifted (run digit t) (by-words q (drop (run digit t) t))
+    → ((s : List ℕ) → plainly q s ≡ expect-one digit (λ b. pass (many (one digit)) (by-words q)) s)
+    → (t : List ℕ) → digit (getD t 0 0) ≡ true → plainly q t ≡ shifted (run digit t) (by-words q (drop (run digit t) t))
 unfolding sound first
 number-first q h c z e [] d = absurd (not-T-of refl (T-of d))
 number-first q h c z e (b ∷ t) d =
@@ -113,28 +113,28 @@ number-first q h c z e (b ∷ t) d =
     ∙ ap later (pass-run digit tt (by-words q) f t)
     ∙ ap (λ (x : Bool). shifted (pick (not x) 0 (suc (run digit t))) (by-words q (drop (pick (not x) 0 (suc (run digit t))) (b ∷ t)))) (sym d)
 
-number-never : (q : ℕ) → ((s : List ℕ) → rest q s ≡ expect-one digit (λ b. pass (many (one digit)) (by-words q)) s)
-    → (t : List ℕ) → digit (getD t 0 0) ≡ false → rest q t ≡ wrong 0
+number-never : (q : ℕ) → ((s : List ℕ) → plainly q s ≡ expect-one digit (λ b. pass (many (one digit)) (by-words q)) s)
+    → (t : List ℕ) → digit (getD t 0 0) ≡ false → plainly q t ≡ wrong 0
 number-never q e [] d = e []
 number-never q e (b ∷ t) d = e (b ∷ t) ∙ ap (λ (x : Bool). pick x (later (pass (many (one digit)) (by-words q) t)) (wrong 0)) d
 
 pub number-law : (q : ℕ) → q < 42 → class-of (kind-of q) ≡ digit → eqb q 0 ≡ false → kind-of q ≡ 1
-    → ((s : List ℕ) → rest q s ≡ expect-one digit (λ b. pass (many (one digit)) (by-words q)) s) → Law q
+    → ((s : List ℕ) → plainly q s ≡ expect-one digit (λ b. pass (many (one digit)) (by-words q)) s) → Law q
 number-law q h c z k e = record {
   leads = λ t d.
       number-first q h c z e t (d k)
       ∙ ap (λ (x : ℕ → Bool). shifted (run x t) (by-words q (drop (run x t) t))) (sym c)
-      ∙ ap (λ (b : Bool). shifted (passed q t) (pick b (better (by-words q (drop (passed q t) t)) (at-end (drop (passed q t) t))) (by-words q (drop (passed q t) t)))) (sym z);
+      ∙ ap (λ (b : Bool). shifted (passed q t) (pick b (better (by-words q (drop (passed q t) t)) (forget (at-end (drop (passed q t) t)))) (by-words q (drop (passed q t) t)))) (sym z);
   refuses = λ t i. number-never q e t;
 }
 
 -- the top, where a text may end too
-shut-top : Shut blank (λ u. better (by-words 0 u) (at-end u))
+shut-top : Shut blank (λ u. better (by-words 0 u) (forget (at-end u)))
 shut-top b u e = ap (λ (x : Only). better x (wrong 0)) (shut 0 (lit< tt) b u e)
 
-pub top-law : ((s : List ℕ) → rest 0 s ≡ pass (many (one blank)) (λ u. better (by-words 0 u) (at-end u)) s) → Law 0
+pub top-law : ((s : List ℕ) → plainly 0 s ≡ pass (many (one blank)) (λ u. better (by-words 0 u) (forget (at-end u))) s) → Law 0
 unfolding sound
 top-law e = record {
-  leads = λ t d. e t ∙ pass-run blank tt (λ u. better (by-words 0 u) (at-end u)) shut-top t;
+  leads = λ t d. e t ∙ pass-run blank tt (λ u. better (by-words 0 u) (forget (at-end u))) shut-top t;
   refuses = λ t k. absurd (omega (arith, k));
 }

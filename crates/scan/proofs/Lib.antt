@@ -2,6 +2,7 @@ pub mod Between
 pub mod Choosing
 pub mod Closing
 pub mod Elements
+pub mod Forgetting
 pub mod Leading
 pub mod Lettered
 pub mod Passing

@@ -8,7 +8,8 @@ use lib.Dec.{lit<}
 use Rattle.grammar.proofs.Sound.{sound}
 use Rattle.scan.specs.Table.{blank, plain}
 use Rattle.scan.proofs.Leading.{Law, many-law, number-law, top-law}
-use Rattle.scan.proofs.Between.{point-top, point-in-criterion, point-after-priority, point-after-trigger, point-after-server, point-after-part, point-in-trigger, point-after-cnf, point-after-row, point-in-row, point-after-negated, point-after-group, point-after-test, point-after-type, point-after-types, point-in-header, point-after-header, point-after-content, point-in-description, point-after-line, point-after-line-content, point-in-server, point-after-name, point-after-handling, point-after-info}
+use Rattle.scan.proofs.Between.{point-in-criterion, point-after-priority, point-after-trigger, point-after-server, point-after-part, point-in-trigger, point-after-cnf, point-after-row, point-in-row, point-after-negated, point-after-group, point-after-test, point-after-type, point-after-types, point-in-header, point-after-header, point-after-content, point-in-description, point-after-line, point-after-line-content, point-in-server, point-after-name, point-after-handling, point-after-info}
+use Rattle.scan.proofs.Forgetting.{plain-gap, plain-top}
 use Rattle.scan.proofs.Within.{point-priority, point-cnf, point-negated, point-group, point-case, point-type, point-type-2, point-handling, point-part, point-uri-text, point-method-text, point-header-text, point-content-text, point-line-text, point-line-content-text, point-server-text, point-info-text}
 
 -- what holds of each number below n
@@ -24,103 +25,103 @@ of P (suc n) a q h =
 
 law-0 : Law 0
 unfolding sound
-law-0 = top-law point-top
+law-0 = top-law plain-top
 
 law-1 : Law 1
 unfolding sound
-law-1 = many-law 1 (lit< tt) blank tt refl (λ e. absurd (omega (arith, e))) refl point-in-criterion
+law-1 = many-law 1 (lit< tt) blank tt refl (λ e. absurd (omega (arith, e))) refl (plain-gap 1 point-in-criterion)
 
 law-2 : Law 2
 unfolding sound
-law-2 = many-law 2 (lit< tt) blank tt refl (λ e. absurd (omega (arith, e))) refl point-after-priority
+law-2 = many-law 2 (lit< tt) blank tt refl (λ e. absurd (omega (arith, e))) refl (plain-gap 2 point-after-priority)
 
 law-3 : Law 3
 unfolding sound
-law-3 = many-law 3 (lit< tt) blank tt refl (λ e. absurd (omega (arith, e))) refl point-after-trigger
+law-3 = many-law 3 (lit< tt) blank tt refl (λ e. absurd (omega (arith, e))) refl (plain-gap 3 point-after-trigger)
 
 law-4 : Law 4
 unfolding sound
-law-4 = many-law 4 (lit< tt) blank tt refl (λ e. absurd (omega (arith, e))) refl point-after-server
+law-4 = many-law 4 (lit< tt) blank tt refl (λ e. absurd (omega (arith, e))) refl (plain-gap 4 point-after-server)
 
 law-5 : Law 5
 unfolding sound
-law-5 = many-law 5 (lit< tt) blank tt refl (λ e. absurd (omega (arith, e))) refl point-after-part
+law-5 = many-law 5 (lit< tt) blank tt refl (λ e. absurd (omega (arith, e))) refl (plain-gap 5 point-after-part)
 
 law-6 : Law 6
 unfolding sound
-law-6 = many-law 6 (lit< tt) blank tt refl (λ e. absurd (omega (arith, e))) refl point-in-trigger
+law-6 = many-law 6 (lit< tt) blank tt refl (λ e. absurd (omega (arith, e))) refl (plain-gap 6 point-in-trigger)
 
 law-7 : Law 7
 unfolding sound
-law-7 = many-law 7 (lit< tt) blank tt refl (λ e. absurd (omega (arith, e))) refl point-after-cnf
+law-7 = many-law 7 (lit< tt) blank tt refl (λ e. absurd (omega (arith, e))) refl (plain-gap 7 point-after-cnf)
 
 law-8 : Law 8
 unfolding sound
-law-8 = many-law 8 (lit< tt) blank tt refl (λ e. absurd (omega (arith, e))) refl point-after-row
+law-8 = many-law 8 (lit< tt) blank tt refl (λ e. absurd (omega (arith, e))) refl (plain-gap 8 point-after-row)
 
 law-9 : Law 9
 unfolding sound
-law-9 = many-law 9 (lit< tt) blank tt refl (λ e. absurd (omega (arith, e))) refl point-in-row
+law-9 = many-law 9 (lit< tt) blank tt refl (λ e. absurd (omega (arith, e))) refl (plain-gap 9 point-in-row)
 
 law-10 : Law 10
 unfolding sound
-law-10 = many-law 10 (lit< tt) blank tt refl (λ e. absurd (omega (arith, e))) refl point-after-negated
+law-10 = many-law 10 (lit< tt) blank tt refl (λ e. absurd (omega (arith, e))) refl (plain-gap 10 point-after-negated)
 
 law-11 : Law 11
 unfolding sound
-law-11 = many-law 11 (lit< tt) blank tt refl (λ e. absurd (omega (arith, e))) refl point-after-group
+law-11 = many-law 11 (lit< tt) blank tt refl (λ e. absurd (omega (arith, e))) refl (plain-gap 11 point-after-group)
 
 law-12 : Law 12
 unfolding sound
-law-12 = many-law 12 (lit< tt) blank tt refl (λ e. absurd (omega (arith, e))) refl point-after-test
+law-12 = many-law 12 (lit< tt) blank tt refl (λ e. absurd (omega (arith, e))) refl (plain-gap 12 point-after-test)
 
 law-13 : Law 13
 unfolding sound
-law-13 = many-law 13 (lit< tt) blank tt refl (λ e. absurd (omega (arith, e))) refl point-after-type
+law-13 = many-law 13 (lit< tt) blank tt refl (λ e. absurd (omega (arith, e))) refl (plain-gap 13 point-after-type)
 
 law-14 : Law 14
 unfolding sound
-law-14 = many-law 14 (lit< tt) blank tt refl (λ e. absurd (omega (arith, e))) refl point-after-types
+law-14 = many-law 14 (lit< tt) blank tt refl (λ e. absurd (omega (arith, e))) refl (plain-gap 14 point-after-types)
 
 law-15 : Law 15
 unfolding sound
-law-15 = many-law 15 (lit< tt) blank tt refl (λ e. absurd (omega (arith, e))) refl point-in-header
+law-15 = many-law 15 (lit< tt) blank tt refl (λ e. absurd (omega (arith, e))) refl (plain-gap 15 point-in-header)
 
 law-16 : Law 16
 unfolding sound
-law-16 = many-law 16 (lit< tt) blank tt refl (λ e. absurd (omega (arith, e))) refl point-after-header
+law-16 = many-law 16 (lit< tt) blank tt refl (λ e. absurd (omega (arith, e))) refl (plain-gap 16 point-after-header)
 
 law-17 : Law 17
 unfolding sound
-law-17 = many-law 17 (lit< tt) blank tt refl (λ e. absurd (omega (arith, e))) refl point-after-content
+law-17 = many-law 17 (lit< tt) blank tt refl (λ e. absurd (omega (arith, e))) refl (plain-gap 17 point-after-content)
 
 law-18 : Law 18
 unfolding sound
-law-18 = many-law 18 (lit< tt) blank tt refl (λ e. absurd (omega (arith, e))) refl point-in-description
+law-18 = many-law 18 (lit< tt) blank tt refl (λ e. absurd (omega (arith, e))) refl (plain-gap 18 point-in-description)
 
 law-19 : Law 19
 unfolding sound
-law-19 = many-law 19 (lit< tt) blank tt refl (λ e. absurd (omega (arith, e))) refl point-after-line
+law-19 = many-law 19 (lit< tt) blank tt refl (λ e. absurd (omega (arith, e))) refl (plain-gap 19 point-after-line)
 
 law-20 : Law 20
 unfolding sound
-law-20 = many-law 20 (lit< tt) blank tt refl (λ e. absurd (omega (arith, e))) refl point-after-line-content
+law-20 = many-law 20 (lit< tt) blank tt refl (λ e. absurd (omega (arith, e))) refl (plain-gap 20 point-after-line-content)
 
 law-21 : Law 21
 unfolding sound
-law-21 = many-law 21 (lit< tt) blank tt refl (λ e. absurd (omega (arith, e))) refl point-in-server
+law-21 = many-law 21 (lit< tt) blank tt refl (λ e. absurd (omega (arith, e))) refl (plain-gap 21 point-in-server)
 
 law-22 : Law 22
 unfolding sound
-law-22 = many-law 22 (lit< tt) blank tt refl (λ e. absurd (omega (arith, e))) refl point-after-name
+law-22 = many-law 22 (lit< tt) blank tt refl (λ e. absurd (omega (arith, e))) refl (plain-gap 22 point-after-name)
 
 law-23 : Law 23
 unfolding sound
-law-23 = many-law 23 (lit< tt) blank tt refl (λ e. absurd (omega (arith, e))) refl point-after-handling
+law-23 = many-law 23 (lit< tt) blank tt refl (λ e. absurd (omega (arith, e))) refl (plain-gap 23 point-after-handling)
 
 law-24 : Law 24
 unfolding sound
-law-24 = many-law 24 (lit< tt) blank tt refl (λ e. absurd (omega (arith, e))) refl point-after-info
+law-24 = many-law 24 (lit< tt) blank tt refl (λ e. absurd (omega (arith, e))) refl (plain-gap 24 point-after-info)
 
 law-25 : Law 25
 unfolding sound

@@ -1,5 +1,5 @@
 -- From one point to the next: a word, and the comment behind it where it begins one.
-use mathlib.Core.Path.{_≡_, sym, ap, ap₂, _∙_, subst, subst⁻¹}
+use mathlib.Core.Path.{_≡_, sym, ap, ap₂, _∙_, subst, subst⁻¹, fun-ext}
 use mathlib.Core.Bool.{Bool, true, _&&_, _||_}
 use Prim.Native.Nat.{ℕ, _+_, _-_, _≤_, _<_}
 use native.Mathlib.Numerals.{add-one}
@@ -13,17 +13,18 @@ use Rattle.octets.specs.Lists.{text}
 use Rattle.octets.proofs.Tests.{left, right, or-cases}
 use Rattle.octets.proofs.Table as table
 use Rattle.grammar.specs.Reading.{wrong, up-to}
-use Rattle.grammar.specs.Inner.Made.{Only, shifted}
+use Rattle.grammar.specs.Inner.Made.{Only, forget, shifted}
 use Rattle.scan.specs.Inner.Points.{starts, nexts, word-at, common, closing, Found, Missing, ClosedAt, NotClosed, Closes, Chose}
 use Rattle.scan.specs.declared.scanner.Chosen.{Chosen}
 use Rattle.scan.specs.declared.scanner.Chosen.the-variants.{Word, Missed}
 use Rattle.scan.specs.declared.scanner.Close.{Close}
 use Rattle.scan.specs.declared.scanner.Close.the-variants.{At, Open}
-use Rattle.scan.specs.Inner.Rests.{rest}
+use Rattle.scan.specs.Inner.Rests.{Ahead, rest, plainly}
 use Rattle.scan.specs.Inner.Turns.{Reached, Broken, by-words}
 use Rattle.scan.proofs.Words.{common-le}
 use Rattle.scan.proofs.Lettered.{word-long, placed, Placed}
 use Rattle.scan.proofs.Choosing.{Point, point}
+use Rattle.grammar.proofs.Made.{made-up-to}
 use Rattle.grammar.proofs.Shifted.{shifted-add, shifted-wrong}
 
 -- ---- where words lead
@@ -50,9 +51,13 @@ next-comment j h l =
     (λ t. ltb→lt (getD nexts j 0) 106 (right (leb 64 (getD nexts j 0)) (ltb (getD nexts j 0) 106) t))
 
 -- behind the start of a comment the point is the same
-pub rest-comment : (n : ℕ) → 64 ≤ n → n < 106 → rest n ≡ up-to (text "-->") [] (rest (n - 64))
+pub ahead-comment : (n : ℕ) → 64 ≤ n → n < 106 → rest n ≡ up-to (text "-->") [] (rest (n - 64))
 unfolding rest
-rest-comment n h l = rw (le-ltb n 64 h, lt-ltb (n - 64) 64 (omega (arith, l)))
+ahead-comment n h l = rw (le-ltb n 64 h, lt-ltb (n - 64) 64 (omega (arith, l)))
+
+pub rest-comment : (n : ℕ) → 64 ≤ n → n < 106 → plainly n ≡ up-to (text "-->") [] (plainly (n - 64))
+rest-comment n h l =
+    fun-ext (λ s. ap (λ (r : List ℕ → Ahead). forget (r s)) (ahead-comment n h l) ∙ made-up-to (λ r. tt) (text "-->") [] (rest (n - 64)) s)
 
 -- ---- behind a word
 
@@ -77,11 +82,11 @@ module _ (s : List ℕ) (at q j from to : ℕ) (i : at ≤ length s) (h : q < 42
       omega (arith, c, l, f .whole, long, i)
 
   -- the words of the point are this one
-  onward : by-words q (drop at s) ≡ shifted (to - from) (rest (getD nexts j 0) (drop (at + (to - from)) s))
+  onward : by-words q (drop at s) ≡ shifted (to - from) (plainly (getD nexts j 0) (drop (at + (to - from)) s))
   onward =
-      f .goes rest
-      ∙ ap (λ (n : ℕ). shifted n (rest (getD nexts j 0) (drop n (drop at s)))) long
-      ∙ ap (λ (t : List ℕ). shifted (to - from) (rest (getD nexts j 0) t)) (drop-drop (to - from) at s)
+      f .goes plainly
+      ∙ ap (λ (n : ℕ). shifted n (plainly (getD nexts j 0) (drop n (drop at s)))) long
+      ∙ ap (λ (t : List ℕ). shifted (to - from) (plainly (getD nexts j 0) t)) (drop-drop (to - from) at s)
 
   module _ (n : ℕ) (m : n ≡ getD nexts j 0) where
     pub word-next : n < 64 → Reached (by-words q) s at (at + (to - from)) n
@@ -91,13 +96,13 @@ module _ (s : List ℕ) (at q j from to : ℕ) (i : at ≤ length s) (h : q < 42
       point = subst⁻¹ (λ (x : ℕ). x < 42) m (next-point j word-number (subst (λ (x : ℕ). x < 64) m l));
       goes =
           let e : at + (to - from) - at ≡ to - from = omega arith in
-          onward ∙ ap₂ (λ (x y : ℕ). shifted x (rest y (drop (at + (to - from)) s))) (sym e) (sym m);
+          onward ∙ ap₂ (λ (x y : ℕ). shifted x (plainly y (drop (at + (to - from)) s))) (sym e) (sym m);
     }
 
-    in-comment : 64 ≤ n → by-words q (drop at s) ≡ shifted (to - from) (up-to (text "-->") [] (rest (n - 64)) (drop (at + (to - from)) s))
+    in-comment : 64 ≤ n → by-words q (drop at s) ≡ shifted (to - from) (up-to (text "-->") [] (plainly (n - 64)) (drop (at + (to - from)) s))
     in-comment l =
         onward
-        ∙ ap (λ (x : ℕ). shifted (to - from) (rest x (drop (at + (to - from)) s))) (sym m)
+        ∙ ap (λ (x : ℕ). shifted (to - from) (plainly x (drop (at + (to - from)) s))) (sym m)
         ∙ ap (λ (r : List ℕ → Only). shifted (to - from) (r (drop (at + (to - from)) s)))
         (rest-comment n l (subst⁻¹ (λ (x : ℕ). x < 106) m (next-comment j word-number (subst (λ (x : ℕ). 64 ≤ x) m l))))
 
@@ -109,9 +114,9 @@ module _ (s : List ℕ) (at q j from to : ℕ) (i : at ≤ length s) (h : q < 42
       goes =
           let e : (to - from) + (z - (at + (to - from))) ≡ z - at = omega (arith, c .forward) in
           in-comment l
-          ∙ ap (shifted (to - from)) (c .goes (rest (n - 64)))
-          ∙ shifted-add (to - from) (z - (at + (to - from))) (rest (n - 64) (drop z s))
-          ∙ ap (λ (x : ℕ). shifted x (rest (n - 64) (drop z s))) e;
+          ∙ ap (shifted (to - from)) (c .goes (plainly (n - 64)))
+          ∙ shifted-add (to - from) (z - (at + (to - from))) (plainly (n - 64) (drop z s))
+          ∙ ap (λ (x : ℕ). shifted x (plainly (n - 64) (drop z s))) e;
     }
 
     pub word-open : 64 ≤ n → NotClosed (closing true) s (at + (to - from)) → Broken (by-words q) s at (length s)
@@ -121,7 +126,7 @@ module _ (s : List ℕ) (at q j from to : ℕ) (i : at ≤ length s) (h : q < 42
           let w : at + (to - from) ≤ length s = word-inside in
           let e : (to - from) + (length s - (at + (to - from))) ≡ length s - at = omega (arith, w) in
           in-comment l
-          ∙ ap (shifted (to - from)) (c .stops (rest (n - 64)))
+          ∙ ap (shifted (to - from)) (c .stops (plainly (n - 64)))
           ∙ shifted-wrong (to - from) (length s - (at + (to - from)))
           ∙ ap wrong e;
     }
@@ -135,7 +140,7 @@ module _ (s : List ℕ) (at q j from to : ℕ) (i : at ≤ length s) (h : q < 42
 pub word-missed : (s : List ℕ) (at q m : ℕ) → Missing q (drop at s) m → Broken (by-words q) s at (at + m)
 word-missed s at q m c = record {
   forward = omega arith;
-  stops = let e : m ≡ at + m - at = omega arith in c .stops rest ∙ ap wrong e;
+  stops = let e : m ≡ at + m - at = omega arith in c .stops plainly ∙ ap wrong e;
 }
 
 pub missed-inside : (s : List ℕ) (at q m : ℕ) → at ≤ length s → Missing q (drop at s) m → at + m ≤ length s

@@ -16,7 +16,7 @@ use Rattle.grammar.specs.Reading.{Read, read-as, wrong, twice, better, larger, 
 use Rattle.grammar.specs.Inner.Made.{Only, forget}
 use Rattle.scan.specs.Table.{digit, profile-text}
 use Rattle.scan.specs.Inner.Points.{starts, nexts, word-at, common, choices, first-word, word-count, kind-of}
-use Rattle.scan.specs.Inner.Rests.{rest, at-end, top}
+use Rattle.scan.specs.Inner.Rests.{plainly, at-end}
 use Rattle.scan.specs.Inner.Turns.{by-words}
 use Rattle.grammar.proofs.Better.{better-none}
 use Rattle.grammar.proofs.Once.{Once, once-shifted, once-up-to}
@@ -26,7 +26,7 @@ use Rattle.scan.proofs.Choosing.{Point, point, chosen}
 use Rattle.scan.proofs.Leading.{behind, passed, none-at-end}
 use Rattle.scan.proofs.PointLaws.{law}
 use Rattle.scan.proofs.Turning.{next-point, next-comment, rest-comment}
-use Rattle.scan.proofs.Starting.{begun, top-is, with-start, without-start, starts-so}
+use Rattle.scan.proofs.Starting.{begun, with-start, without-start, starts-so}
 
 -- ---- words
 
@@ -59,16 +59,16 @@ module _ (t : List ℕ) where
 
 -- shorter texts are read once from every point
 abbrev Shorter : ℕ → Type 0
-Shorter n = (q : ℕ) → q < 42 → (v : List ℕ) → length v < n → Once (rest q v)
+Shorter n = (q : ℕ) → q < 42 → (v : List ℕ) → length v < n → Once (plainly q v)
 
-next-once : (n j : ℕ) → j < 123 → Shorter n → (v : List ℕ) → length v < n → Once (rest (getD nexts j 0) v)
+next-once : (n j : ℕ) → j < 123 → Shorter n → (v : List ℕ) → length v < n → Once (plainly (getD nexts j 0) v)
 next-once n j h f v l =
     test-cases (ltb (getD nexts j 0) 64)
     (λ e. f (getD nexts j 0) (next-point j h (ltb-true (getD nexts j 0) 64 e)) v l)
     (λ e. let g : 64 ≤ getD nexts j 0 = ltb-false (getD nexts j 0) 64 e in
     let c : getD nexts j 0 < 106 = next-comment j h g in
     subst⁻¹ (λ (r : List ℕ → Only). Once (r v)) (rest-comment (getD nexts j 0) g c)
-    (once-up-to (text "-->") [] (rest (getD nexts j 0 - 64)) (length v)
+    (once-up-to (text "-->") [] (plainly (getD nexts j 0 - 64)) (length v)
     (λ u k. f (getD nexts j 0 - 64) (omega (arith, g, c)) u (omega (arith, k, l))) v (omega arith)))
 
 words-once : (n q : ℕ) → q < 42 → Shorter n → (t : List ℕ) → length t ≤ n → Once (by-words q t)
@@ -82,24 +82,24 @@ words-once n q h f t l =
     let long : length (word-at j) ≡ getD starts (suc j) 0 - getD starts j 0 = word-long j few in
     let c : common (word-at j) t ≤ length t = common-le (word-at j) t in
     let d : length (drop (length (word-at j)) t) ≡ length t - length (word-at j) = length-drop (length (word-at j)) t in
-    subst⁻¹ Once (chosen rest t j (x .3) (first-word q) (word-count q) (x .1) (x .2) (p .clears j (x .1) under))
-    (once-shifted (length (word-at j)) (rest (getD nexts j 0) (drop (length (word-at j)) t))
+    subst⁻¹ Once (chosen plainly t j (x .3) (first-word q) (word-count q) (x .1) (x .2) (p .clears j (x .1) under))
+    (once-shifted (length (word-at j)) (plainly (getD nexts j 0) (drop (length (word-at j)) t))
     (next-once n j few f (drop (length (word-at j)) t) (omega (arith, w .rises, long, c, d, l, x .3)))))
-    (λ g. subst⁻¹ Once (none-stands t rest (first-word q) (word-count q) g .1) tt)
+    (λ g. subst⁻¹ Once (none-stands t plainly (first-word q) (word-count q) g .1) tt)
     (decide t (first-word q) (word-count q))
 
-top-once : (n : ℕ) → Shorter n → (t : List ℕ) → length t ≤ n → Once (better (by-words 0 t) (at-end t))
+top-once : (n : ℕ) → Shorter n → (t : List ℕ) → length t ≤ n → Once (better (by-words 0 t) (forget (at-end t)))
 top-once n f [] l = subst⁻¹ (λ (x : Only). Once (better x (read-as tt))) (none-at-end 0 (lit< tt)) tt
 top-once n f (b ∷ t) l = subst⁻¹ Once (better-none (by-words 0 (b ∷ t))) (words-once n 0 (lit< tt) f (b ∷ t) l)
 
 behind-once : (n q : ℕ) → q < 42 → Shorter n → (t : List ℕ) → length t ≤ n → Once (behind q t)
 behind-once n q h f t l =
     test-cases (eqb q 0)
-    (λ e. subst⁻¹ (λ (b : Bool). Once (pick b (better (by-words q t) (at-end t)) (by-words q t))) e
-    (subst (λ (x : ℕ). Once (better (by-words x t) (at-end t))) (sym (eqb-true q 0 e)) (top-once n f t l)))
-    (λ e. subst⁻¹ (λ (b : Bool). Once (pick b (better (by-words q t) (at-end t)) (by-words q t))) e (words-once n q h f t l))
+    (λ e. subst⁻¹ (λ (b : Bool). Once (pick b (better (by-words q t) (forget (at-end t))) (by-words q t))) e
+    (subst (λ (x : ℕ). Once (better (by-words x t) (forget (at-end t)))) (sym (eqb-true q 0 e)) (top-once n f t l)))
+    (λ e. subst⁻¹ (λ (b : Bool). Once (pick b (better (by-words q t) (forget (at-end t))) (by-words q t))) e (words-once n q h f t l))
 
-led-once : (n q : ℕ) → q < 42 → Shorter n → (t : List ℕ) → length t ≤ n → (kind-of q ≡ 1 → digit (getD t 0 0) ≡ true) → Once (rest q t)
+led-once : (n q : ℕ) → q < 42 → Shorter n → (t : List ℕ) → length t ≤ n → (kind-of q ≡ 1 → digit (getD t 0 0) ≡ true) → Once (plainly q t)
 led-once n q h f t l d =
     let m : length (drop (passed q t) t) ≡ length t - passed q t = length-drop (passed q t) t in
     subst⁻¹ Once (law q h .leads t d)
@@ -118,17 +118,17 @@ points-once (suc n) q h t l =
 
 -- ---- the whole text
 
-from-top : (s : List ℕ) → Once (top s)
-from-top s = subst Once (top-is s) (points-once (suc (length s)) 0 (lit< tt) s (omega arith))
+from-top : (s : List ℕ) → Once (plainly 0 s)
+from-top s = (points-once (suc (length s)) 0 (lit< tt) s (omega arith))
 
 pub text-once : (s : List ℕ) → Once (forget (read-text profile-text s))
 text-once s =
     subst⁻¹ Once (begun s)
     (test-cases (eqb 60 (getD s 0 0) && eqb 63 (getD s 1 0))
     (λ e. let p = starts-so s e in
-    subst⁻¹ (λ (x : List ℕ). Once (better (expect (text "<?") (up-to (text "?>") [] top) x) (top x))) (p .1)
+    subst⁻¹ (λ (x : List ℕ). Once (better (expect (text "<?") (up-to (text "?>") [] (plainly 0)) x) ((plainly 0) x))) (p .1)
     (subst⁻¹ Once (with-start (p .0))
-    (once-shifted 2 (up-to (text "?>") [] top (p .0)) (once-up-to (text "?>") [] top (length (p .0)) (λ v k. from-top v) (p .0) (omega arith)))))
+    (once-shifted 2 (up-to (text "?>") [] (plainly 0) (p .0)) (once-up-to (text "?>") [] (plainly 0) (length (p .0)) (λ v k. from-top v) (p .0) (omega arith)))))
     (λ e. subst⁻¹ Once (without-start s e) (from-top s)))
 
 pub never-twice : (s : List ℕ) → read-text profile-text s ≡ twice → ⊥

@@ -1,3 +1,4 @@
+pub mod Events
 pub mod Points
 pub mod Rests
 pub mod Turns

@@ -6,7 +6,7 @@ ghost use mathlib.Core.Bool.{true, false};
 ghost use Rattle.grammar.specs.Reading.{larger, read-text};
 ghost use Rattle.grammar.specs.Inner.Made.{forget, shifted};
 ghost use Rattle.scan.specs.Table.{digit, profile-text};
-ghost use Rattle.scan.specs.Inner.Rests.{rest};
+ghost use Rattle.scan.specs.Inner.Rests.{plainly};
 ghost use Rattle.scan.specs.Inner.Turns.{Turns, by-words, scan-out};
 ghost use Rattle.scan.specs.Inner.Points.{word-at, common, class-of, run, kind-of, Chose, ends-by, closing, Closes, Found};
 use crate::points::first_of;
@@ -195,7 +195,7 @@ fn word_turn(s: &[u8], at: usize, q: usize) -> Turn
 // From point q, of the kind given, over what it passes over and on by its words.
 fn lead(s: &[u8], at: usize, q: usize, kind: usize) -> Turn
     requires { ⌜ (at ≤ length (now s)) × (q < 42) × (kind ≡ kind-of q) × (kind ≡ 1 → digit (getD (now s) at 0) ≡ true) ⌝ }
-    ensures { λ r. ⌜ Turns (rest q) (now (s .entry)) at r ⌝ }
+    ensures { λ r. ⌜ Turns (plainly q) (now (s .entry)) at r ⌝ }
 {
     let e = run_end(s, at, kind);
     if q == 0 {
@@ -210,7 +210,7 @@ fn lead(s: &[u8], at: usize, q: usize, kind: usize) -> Turn
 // From one point of the text to the next.
 fn pass_point(s: &[u8], at: usize, q: usize) -> Turn
     requires { ⌜ (at ≤ length (now s)) × (q < 42) ⌝ }
-    ensures { λ r. ⌜ Turns (rest q) (now (s .entry)) at r ⌝ }
+    ensures { λ r. ⌜ Turns (plainly q) (now (s .entry)) at r ⌝ }
 {
     let kind = kind_of(q);
     if kind == 1 {
@@ -232,7 +232,7 @@ pub enum Scan {
 // From the top, at a place.
 fn scan_from(s: &[u8], from: usize) -> Scan
     requires { ⌜ from ≤ length (now s) ⌝ }
-    ensures { λ r. ⌜ scan-out r ≡ shifted from (rest 0 (drop from (now (s .entry)))) ⌝ }
+    ensures { λ r. ⌜ scan-out r ≡ shifted from (plainly 0 (drop from (now (s .entry)))) ⌝ }
 {
     let mut at = from;
     let mut q: usize = 0;

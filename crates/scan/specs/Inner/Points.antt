@@ -82,7 +82,7 @@ common (c ∷ w) [] = 0
 common (c ∷ w) (b ∷ t) = pick (eqb c b) (suc (common w t)) 0
 
 -- so many words from number j on, each with how the text goes on behind it
-unfoldable pub choices : (ℕ → List ℕ → Read (Unit {0})) → ℕ → ℕ → List ℕ → Read (Unit {0})
+unfoldable pub choices : {R : Type 0} → (ℕ → List ℕ → Read R) → ℕ → ℕ → List ℕ → Read R
 unfolding word-at nexts
 choices k j zero t = wrong 0
 choices k j (suc n) t = better (expect (word-at j) (k (getD nexts j 0)) t) (choices k (suc j) n t)

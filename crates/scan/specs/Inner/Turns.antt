@@ -6,7 +6,7 @@ use lib.ListN.{length, drop}
 use Rattle.grammar.specs.Reading.{read-as, wrong}
 use Rattle.grammar.specs.Inner.Made.{Only, shifted}
 use Rattle.scan.specs.Inner.Points.{choices, first-word, word-count}
-use Rattle.scan.specs.Inner.Rests.{rest}
+use Rattle.scan.specs.Inner.Rests.{plainly}
 use Rattle.scan.specs.declared.scanner.Scan.{Scan}
 use Rattle.scan.specs.declared.scanner.Turn.{Turn}
 use Rattle.scan.specs.declared.scanner.Turn.the-variants.{Next, Whole, Wrong}
@@ -16,7 +16,7 @@ pub record Reached (way : List ℕ → Only) (s : List ℕ) (at e p : ℕ) : Typ
   pub forward : at < e
   pub inside : e ≤ length s
   pub point : p < 42
-  pub goes : way (drop at s) ≡ shifted (e - at) (rest p (drop e s))
+  pub goes : way (drop at s) ≡ shifted (e - at) (plainly p (drop e s))
 
 -- it goes wrong at n
 pub record Broken (way : List ℕ → Only) (s : List ℕ) (at n : ℕ) : Type 0 where
@@ -38,4 +38,4 @@ scan-out (Scan.Wrong n) = wrong n
 
 -- by the words of point q
 abbrev pub by-words : ℕ → List ℕ → Only
-by-words q t = choices rest (first-word q) (word-count q) t
+by-words q t = choices plainly (first-word q) (word-count q) t
