@@ -7,4 +7,5 @@ pub mod Finding
 pub mod Inserting
 pub mod Promises
 pub mod Stores
+pub mod ToCome
 pub mod Uses

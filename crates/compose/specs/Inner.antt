@@ -1,3 +1,4 @@
 pub mod Groups
 pub mod Storing
+pub mod Telling
 pub mod Values

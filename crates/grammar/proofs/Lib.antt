@@ -5,3 +5,4 @@ pub mod Meaning
 pub mod Once
 pub mod Shifted
 pub mod Sound
+pub mod Split

@@ -13,5 +13,6 @@ pub mod Starting
 pub mod Subset
 pub mod Turning
 pub mod Unique
+pub mod ValuePoints
 pub mod Within
 pub mod Words

@@ -13,11 +13,11 @@ use Rattle.scan.proofs.Forgetting.{plain-gap, plain-top}
 use Rattle.scan.proofs.Within.{point-priority, point-cnf, point-negated, point-group, point-case, point-type, point-type-2, point-handling, point-part, point-uri-text, point-method-text, point-header-text, point-content-text, point-line-text, point-line-content-text, point-server-text, point-info-text}
 
 -- what holds of each number below n
-abbrev All : (ℕ → Type 0) → ℕ → Type 0
+abbrev pub All : (ℕ → Type 0) → ℕ → Type 0
 All P zero = Unit {0}
 All P (suc n) = All P n × P n
 
-of : (P : ℕ → Type 0) (n : ℕ) → All P n → (q : ℕ) → q < n → P q
+pub of : (P : ℕ → Type 0) (n : ℕ) → All P n → (q : ℕ) → q < n → P q
 of P zero a q h = absurd (omega (arith, h))
 of P (suc n) a q h =
     let l : q ≤ n = omega (arith, h) in
