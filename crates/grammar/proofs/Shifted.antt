@@ -3,7 +3,8 @@ use mathlib.Core.Path.{_≡_, refl, sym, ap, _∙_}
 use Prim.Native.Nat.{ℕ, zero, suc, _+_, _≤_, _<_}
 use native.Mathlib.Omega.{arith}
 use Rattle.grammar.specs.Reading.{Read, read-as, wrong, later, larger, better}
-use Rattle.grammar.specs.Inner.Made.{shifted}
+use Rattle.grammar.specs.Inner.Made.{made, shifted}
+use Rattle.grammar.proofs.Made.{made-later}
 use Rattle.grammar.proofs.Better.{better-none, better-comm, later-better}
 
 -- ---- the larger of two
@@ -55,3 +56,7 @@ module _ {R : Type 0} where
 
   pub wins-shifted : (n m : ℕ) (x : Read R) → m ≤ n → better (wrong m) (shifted n x) ≡ shifted n x
   wins-shifted n m x h = better-comm (wrong m) (shifted n x) ∙ shifted-wins n m x h
+
+pub made-shifted : {R Q : Type 0} (f : R → Q) (n : ℕ) (x : Read R) → made f (shifted n x) ≡ shifted n (made f x)
+made-shifted f zero x = refl
+made-shifted f (suc n) x = made-later f (shifted n x) ∙ ap later (made-shifted f n x)

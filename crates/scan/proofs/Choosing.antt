@@ -11,8 +11,9 @@ use Rattle.octets.proofs.Tests.{left, right, or-cases}
 use mathlib.Core.Logic.{_⊎_, ⊎-elim}
 use native.Mathlib.Nat.{eq-or-lt-of-le}
 use Rattle.octets.proofs.Table as table
-use Rattle.grammar.specs.Reading.{wrong, larger, better, expect}
-use Rattle.grammar.specs.Inner.Made.{Only, shifted}
+use Rattle.grammar.specs.Reading.{Read, wrong, larger, better, expect}
+use Rattle.grammar.specs.Inner.Made.{shifted}
+use Rattle.scan.specs.Inner.Rests.{Ahead}
 use Rattle.scan.specs.Inner.Points.{firsts, starts, nexts, letters, word-at, common, choices, first-word, word-count, Found, Missing}
 use Rattle.grammar.proofs.Better.{better-none, none-better, better-assoc}
 use Rattle.grammar.proofs.Shifted.{larger-under, shifted-wins, wins-shifted}
@@ -71,7 +72,7 @@ point q h =
 
 -- ---- the word that stands there
 
-module _ (k : ℕ → List ℕ → Only) (t : List ℕ) (j : ℕ) (w : common (word-at j) t ≡ length (word-at j)) where
+module _ {R : Type 0} (k : ℕ → List ℕ → Read R) (t : List ℕ) (j : ℕ) (w : common (word-at j) t ≡ length (word-at j)) where
   -- a word that is apart stops within it
   missed : (i : ℕ) → T (apart (word-at i) (word-at j)) → (m : ℕ) × (m ≤ length (word-at j)) × (expect (word-at i) (k (getD nexts i 0)) t ≡ wrong m)
   missed i a =
@@ -122,7 +123,7 @@ pub record Choosing (q : ℕ) (t : List ℕ) (end best j : ℕ) : Type 0 where
   pub upto : j ≤ end
   pub last : end ≡ first-word (suc q)
   pub within : best ≤ length t
-  pub same : (k : ℕ → List ℕ → Only) → choices k (first-word q) (word-count q) t ≡ better (wrong best) (choices k j (end - j) t)
+  pub same : (k : ℕ → List ℕ → Ahead) → choices k (first-word q) (word-count q) t ≡ better (wrong best) (choices k j (end - j) t)
 
 pub choosing-first : (q : ℕ) (t : List ℕ) (end j : ℕ) → q < 42 → end ≡ getD firsts (q + 1) 0 → j ≡ getD firsts q 0 → Choosing q t end 0 j
 choosing-first q t end j h e f =
@@ -186,7 +187,7 @@ module _ (q : ℕ) (t : List ℕ) (end best j : ℕ) (c : Choosing q t end best 
         let n : end - j ≡ suc (end - suc j) = omega (arith, h) in
         c .same k
         ∙ ap (λ (z : ℕ). better (wrong best) (choices k j z t)) n
-        ∙ ap (λ (z : Only). better (wrong best) (better z (choices k (suc j) (end - suc j) t))) m
+        ∙ ap (λ (z : Ahead). better (wrong best) (better z (choices k (suc j) (end - suc j) t))) m
         ∙ sym (better-assoc (wrong best) (wrong r) (choices k (suc j) (end - suc j) t))
         ∙ ap₂ (λ (z i : ℕ). better (wrong z) (choices k i (end - i) t)) (sym l) (sym (add-one j));
   }

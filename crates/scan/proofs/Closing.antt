@@ -11,7 +11,8 @@ use lib.Seq.{drop-cons}
 use Rattle.octets.specs.Lists.{pick}
 use Rattle.grammar.specs.Grammar.{ended}
 use Rattle.grammar.specs.Reading.{wrong, later, up-to}
-use Rattle.grammar.specs.Inner.Made.{Only, shifted}
+use Rattle.grammar.specs.Inner.Made.{shifted}
+use Rattle.scan.specs.Inner.Rests.{Ahead}
 use Rattle.grammar.proofs.Shifted.{shifted-later, shifted-wrong}
 use Rattle.scan.specs.Inner.Points.{closing, ends-by, ClosedAt, NotClosed}
 
@@ -34,7 +35,7 @@ pub record Closing (comment : Bool) (s : List ℕ) (at q p i : ℕ) : Type 0 whe
   pub before : q ≡ getD passed 1 0
   pub forward : at ≤ i
   pub inside : i ≤ length s
-  pub same : (k : List ℕ → Only) → up-to (closing comment) [] k (drop at s) ≡ shifted (i - at) (up-to (closing comment) passed k (drop i s))
+  pub same : (k : List ℕ → Ahead) → up-to (closing comment) [] k (drop at s) ≡ shifted (i - at) (up-to (closing comment) passed k (drop i s))
 
 pub closing-first : (comment : Bool) (s : List ℕ) (at : ℕ) → at ≤ length s → Closing comment s at 0 0 at
 closing-first c s at h = record {
@@ -64,7 +65,7 @@ module _ (comment : Bool) (s : List ℕ) (at q p i : ℕ) (c : Closing comment s
   }
 
   -- one byte more
-  more : (h : i < length s) (t : Bool) → t ≡ ends-by comment q p (getD s i 0) → (k : List ℕ → Only)
+  more : (h : i < length s) (t : Bool) → t ≡ ends-by comment q p (getD s i 0) → (k : List ℕ → Ahead)
       → up-to w [] k (drop at s) ≡ shifted (i + 1 - at) (pick t (k (drop (i + 1) s)) (up-to w (getD s i 0 ∷ c .passed) k (drop (i + 1) s)))
   more h t e k =
       let n : i + 1 - at ≡ suc (i - at) = omega (arith, c .forward) in

@@ -13,7 +13,7 @@ use Rattle.scan.specs.Inner.Events.{Event, note, note-text}
 use Rattle.scan.specs.Inner.Rests.{pass, told, Ahead, at-end, in-number, in-string, rest, plainly}
 use Rattle.scan.proofs.Between.{Gap, point-top}
 
-forget-choices : (k : ℕ → List ℕ → Ahead) (i n : ℕ) (t : List ℕ) → forget (choices k i n t) ≡ choices (λ q u. forget (k q u)) i n t
+pub forget-choices : (k : ℕ → List ℕ → Ahead) (i n : ℕ) (t : List ℕ) → forget (choices k i n t) ≡ choices (λ q u. forget (k q u)) i n t
 unfolding choices
 forget-choices k i zero t = refl
 forget-choices k i (suc n) t =

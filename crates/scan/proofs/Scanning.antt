@@ -13,13 +13,14 @@ use Rattle.cuts.proofs.Search.{first-le}
 use Rattle.grammar.specs.Reading.{read-as, wrong, better}
 use Rattle.grammar.specs.Inner.Made.{Only, shifted, forget}
 use Rattle.scan.specs.Table.{digit}
-use Rattle.scan.specs.Inner.Points.{kind-of, class-of, outside, run}
-use Rattle.scan.specs.Inner.Rests.{plainly, at-end}
-use Rattle.scan.specs.Inner.Turns.{Reached, Broken, Ended, Turns, by-words}
+use Rattle.scan.specs.Inner.Points.{kind-of, class-of, outside, run, first-word, word-count}
+use Rattle.scan.specs.Inner.Rests.{rest, plainly, at-end}
+use Rattle.scan.specs.Inner.Turns.{Reached, Broken, Ended, Turns, by-words, TurnsAhead, words-ahead}
 use Rattle.scan.specs.declared.scanner.Turn.{Turn}
 use Rattle.scan.specs.declared.scanner.Turn.the-variants.{Next, Whole, Wrong}
 use Rattle.grammar.proofs.Better.{better-none}
-use Rattle.grammar.proofs.Shifted.{shifted-add, shifted-wrong, shifted-read}
+use Rattle.grammar.proofs.Shifted.{shifted-add, shifted-wrong, shifted-read, made-shifted}
+use Rattle.scan.proofs.Forgetting.{forget-choices}
 use Rattle.scan.proofs.Leading.{behind, passed, none-at-end}
 use Rattle.scan.proofs.PointLaws.{law}
 
@@ -43,6 +44,21 @@ turn-back way on s at e h g (Wrong n) t = record {
       g ∙ ap (shifted (e - at)) (t .stops) ∙ shifted-wrong (e - at) (n - e) ∙ ap wrong q;
 }
 
+-- the words of a point, without the values
+forget-turn : (s : List ℕ) (q e : ℕ) (t : Turn) → TurnsAhead (words-ahead q) s e t → Turns (by-words q) s e t
+forget-turn s q e (Next z p) t = record {
+  forward = t .forward;
+  inside = t .inside;
+  point = t .point;
+  goes =
+      sym (forget-choices rest (first-word q) (word-count q) (drop e s)) ∙ ap forget (t .goes) ∙ made-shifted (λ r. tt) (z - e) (rest p (drop z s));
+}
+forget-turn s q e Whole t = record { ends = sym (forget-choices rest (first-word q) (word-count q) (drop e s)) ∙ ap forget (t .ends) }
+forget-turn s q e (Wrong n) t = record {
+  forward = t .forward;
+  stops = sym (forget-choices rest (first-word q) (word-count q) (drop e s)) ∙ ap forget (t .stops);
+}
+
 -- ---- from a point over what it passes over
 
 abbrev Ready : List ℕ → ℕ → ℕ → Type 0
@@ -62,7 +78,7 @@ module _ (s : List ℕ) (at q kind e : ℕ) (h : q < 42) (k : kind ≡ kind-of q
       ∙ ap (λ (t : List ℕ). shifted (passed q (drop at s)) (behind q t)) (drop-drop (passed q (drop at s)) at s)
       ∙ ap₂ (λ (n m : ℕ). shifted n (behind q (drop m s))) f (sym r-is)
 
-  pub lead-whole : q ≡ 0 → e ≡ length s → Ended (plainly q) s at
+  pub lead-whole : q ≡ 0 → e ≡ length s → Ended tt (plainly q) s at
   lead-whole z l =
       let g : length s ≤ e = omega (arith, l) in
       record {
@@ -74,19 +90,19 @@ module _ (s : List ℕ) (at q kind e : ℕ) (h : q < 42) (k : kind ≡ kind-of q
             ∙ shifted-read (e - at) tt;
       }
 
-  pub lead-top : q ≡ 0 → (e ≡ length s → ⊥) → e ≤ length s → (t : Turn) → Turns (by-words q) s e t → Turns (plainly q) s at t
+  pub lead-top : q ≡ 0 → (e ≡ length s → ⊥) → e ≤ length s → (t : Turn) → TurnsAhead (words-ahead q) s e t → Turns (plainly q) s at t
   lead-top z n l t u =
       let g : e < length s = omega (arith, l, n) in
       turn-back (plainly q) (by-words q) s at e (omega (arith, r))
       (led-to
       ∙ ap (λ (b : Bool). shifted (e - at) (pick b (better (by-words q (drop e s)) (forget (at-end (drop e s)))) (by-words q (drop e s)))) (eq-eqb q 0 z)
       ∙ ap (λ (x : List ℕ). shifted (e - at) (better (by-words q (drop e s)) (forget (at-end x)))) (drop-cons s e 0 g)
-      ∙ ap (shifted (e - at)) (better-none (by-words q (drop e s)))) t u
+      ∙ ap (shifted (e - at)) (better-none (by-words q (drop e s)))) t (forget-turn s q e t u)
 
-  pub lead-on : (q ≡ 0 → ⊥) → (t : Turn) → Turns (by-words q) s e t → Turns (plainly q) s at t
+  pub lead-on : (q ≡ 0 → ⊥) → (t : Turn) → TurnsAhead (words-ahead q) s e t → Turns (plainly q) s at t
   lead-on z t u =
       turn-back (plainly q) (by-words q) s at e (omega (arith, r))
-      (led-to ∙ ap (λ (b : Bool). shifted (e - at) (pick b (better (by-words q (drop e s)) (forget (at-end (drop e s)))) (by-words q (drop e s)))) (ne-eqb q 0 z)) t u
+      (led-to ∙ ap (λ (b : Bool). shifted (e - at) (pick b (better (by-words q (drop e s)) (forget (at-end (drop e s)))) (by-words q (drop e s)))) (ne-eqb q 0 z)) t (forget-turn s q e t u)
 
 pub run-inside : (s : List ℕ) (at e : ℕ) (p : ℕ → Bool) → at ≤ length s → e ≡ at + run p (drop at s) → e ≤ length s
 run-inside s at e p h r =
@@ -122,7 +138,7 @@ module _ (s : List ℕ) (from at q : ℕ) (c : Scanning s from at q) (t : Turn) 
 
   pub scanning-next : (e p : ℕ) → t ≡ Next e p → Scanning s from e p
   scanning-next e p f =
-      let r : Reached (plainly q) s at e p = told (Next e p) f in
+      let r : Reached plainly (plainly q) s at e p = told (Next e p) f in
       let n : at + (e - at) ≡ e = omega (arith, r .forward) in
       record {
         inside = r .inside;
@@ -131,11 +147,11 @@ module _ (s : List ℕ) (from at q : ℕ) (c : Scanning s from at q) (t : Turn) 
       }
 
   pub scanning-less : (e p : ℕ) → t ≡ Next e p → length s - e < length s - at
-  scanning-less e p f = let r : Reached (plainly q) s at e p = told (Next e p) f in omega (arith, r .forward, r .inside)
+  scanning-less e p f = let r : Reached plainly (plainly q) s at e p = told (Next e p) f in omega (arith, r .forward, r .inside)
 
   pub scanning-whole : t ≡ Whole → read-as tt ≡ shifted from (plainly 0 (drop from s))
   scanning-whole f =
-      let r : Ended (plainly q) s at = told Whole f in
+      let r : Ended tt (plainly q) s at = told Whole f in
       sym (c .same ∙ ap (shifted at) (r .ends) ∙ shifted-read at tt)
 
   pub scanning-wrong : (n : ℕ) → t ≡ Wrong n → wrong n ≡ shifted from (plainly 0 (drop from s))

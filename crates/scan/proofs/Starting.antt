@@ -23,7 +23,7 @@ use Rattle.scan.specs.declared.scanner.Close.{Close}
 use Rattle.scan.specs.declared.scanner.Close.the-variants.{At, Open}
 use Rattle.grammar.proofs.Better.{better-none, none-better, later-better}
 use Rattle.grammar.proofs.Made.{made-read, made-better, made-expect, made-up-to, forget-made}
-use Rattle.grammar.proofs.Shifted.{shifted-add, shifted-wrong}
+use Rattle.grammar.proofs.Shifted.{shifted-add, shifted-wrong, made-shifted}
 use Rattle.scan.proofs.PointLaws.{law}
 
 -- ---- the whole text, and the values that it tells
@@ -133,6 +133,14 @@ tests-are s a b e f t h = ap₂ (λ (x y : ℕ). eqb 60 x && eqb 63 y) (sym e) (
 pub start-within : (s : List ℕ) (d : Close) → Closes (closing false) s 2 d → (z : ℕ) → d ≡ At z → z ≤ length s
 start-within s d c z q = let k : ClosedAt (closing false) s 2 z = subst (Closes (closing false) s 2) q c in k .inside
 
+-- an end that is found, or not, without the values
+closed-plain : (w s : List ℕ) (at z : ℕ) → ClosedAt w s at z → up-to w [] (plainly 0) (drop at s) ≡ shifted (z - at) (plainly 0 (drop z s))
+closed-plain w s at z k =
+    sym (made-up-to (λ r. tt) w [] (rest 0) (drop at s)) ∙ ap forget (k .goes (rest 0)) ∙ made-shifted (λ r. tt) (z - at) (rest 0 (drop z s))
+
+open-plain : (w s : List ℕ) (at : ℕ) → NotClosed w s at → up-to w [] (plainly 0) (drop at s) ≡ wrong (length s - at)
+open-plain w s at k = sym (made-up-to (λ r. tt) w [] (rest 0) (drop at s)) ∙ ap forget (k .stops (rest 0))
+
 module _ (s : List ℕ) (a b : ℕ) (e : a ≡ getD s 0 0) (f : b ≡ getD s 1 0) where
   pub start-inside : (eqb 60 a && eqb 63 b) ≡ true → 2 ≤ length s
   start-inside h =
@@ -153,7 +161,7 @@ module _ (s : List ℕ) (a b : ℕ) (e : a ≡ getD s 0 0) (f : b ≡ getD s 1 0
       let n : 2 + (z - 2) ≡ z = omega (arith, k .forward) in
       g
       ∙ sym (started h
-      ∙ ap (shifted 2) (k .goes (plainly 0))
+      ∙ ap (shifted 2) (closed-plain (text "?>") s 2 z k)
       ∙ shifted-add 2 (z - 2) ((plainly 0) (drop z s))
       ∙ ap (λ (m : ℕ). shifted m ((plainly 0) (drop z s))) n)
 
@@ -162,7 +170,7 @@ module _ (s : List ℕ) (a b : ℕ) (e : a ≡ getD s 0 0) (f : b ≡ getD s 1 0
       let k : NotClosed (closing false) s 2 = subst (Closes (closing false) s 2) q c in
       let l : 2 ≤ length s = start-inside h in
       let n : 2 + (length s - 2) ≡ length s = omega (arith, l) in
-      sym (started h ∙ ap (shifted 2) (k .stops (plainly 0)) ∙ shifted-wrong 2 (length s - 2) ∙ ap wrong n)
+      sym (started h ∙ ap (shifted 2) (open-plain (text "?>") s 2 k) ∙ shifted-wrong 2 (length s - 2) ∙ ap wrong n)
 
   pub no-start : (eqb 60 a && eqb 63 b) ≡ false → (r : Only) → r ≡ shifted 0 (plainly 0 (drop 0 s)) → r ≡ forget (read-text profile-text s)
   no-start h r g = g ∙ sym (begun s ∙ without-start s (tests-are s a b e f false h))

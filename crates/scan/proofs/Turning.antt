@@ -13,14 +13,14 @@ use Rattle.octets.specs.Lists.{text}
 use Rattle.octets.proofs.Tests.{left, right, or-cases}
 use Rattle.octets.proofs.Table as table
 use Rattle.grammar.specs.Reading.{wrong, up-to}
-use Rattle.grammar.specs.Inner.Made.{Only, forget, shifted}
+use Rattle.grammar.specs.Inner.Made.{forget, shifted}
 use Rattle.scan.specs.Inner.Points.{starts, nexts, word-at, common, closing, Found, Missing, ClosedAt, NotClosed, Closes, Chose}
 use Rattle.scan.specs.declared.scanner.Chosen.{Chosen}
 use Rattle.scan.specs.declared.scanner.Chosen.the-variants.{Word, Missed}
 use Rattle.scan.specs.declared.scanner.Close.{Close}
 use Rattle.scan.specs.declared.scanner.Close.the-variants.{At, Open}
 use Rattle.scan.specs.Inner.Rests.{Ahead, rest, plainly}
-use Rattle.scan.specs.Inner.Turns.{Reached, Broken, by-words}
+use Rattle.scan.specs.Inner.Turns.{Reached, Broken, words-ahead}
 use Rattle.scan.proofs.Words.{common-le}
 use Rattle.scan.proofs.Lettered.{word-long, placed, Placed}
 use Rattle.scan.proofs.Choosing.{Point, point}
@@ -82,31 +82,31 @@ module _ (s : List ℕ) (at q j from to : ℕ) (i : at ≤ length s) (h : q < 42
       omega (arith, c, l, f .whole, long, i)
 
   -- the words of the point are this one
-  onward : by-words q (drop at s) ≡ shifted (to - from) (plainly (getD nexts j 0) (drop (at + (to - from)) s))
+  onward : words-ahead q (drop at s) ≡ shifted (to - from) (rest (getD nexts j 0) (drop (at + (to - from)) s))
   onward =
-      f .goes plainly
-      ∙ ap (λ (n : ℕ). shifted n (plainly (getD nexts j 0) (drop n (drop at s)))) long
-      ∙ ap (λ (t : List ℕ). shifted (to - from) (plainly (getD nexts j 0) t)) (drop-drop (to - from) at s)
+      f .goes rest
+      ∙ ap (λ (n : ℕ). shifted n (rest (getD nexts j 0) (drop n (drop at s)))) long
+      ∙ ap (λ (t : List ℕ). shifted (to - from) (rest (getD nexts j 0) t)) (drop-drop (to - from) at s)
 
   module _ (n : ℕ) (m : n ≡ getD nexts j 0) where
-    pub word-next : n < 64 → Reached (by-words q) s at (at + (to - from)) n
+    pub word-next : n < 64 → Reached rest (words-ahead q) s at (at + (to - from)) n
     word-next l = record {
       forward = let p : 0 < to - from = some-bytes in omega (arith, p);
       inside = word-inside;
       point = subst⁻¹ (λ (x : ℕ). x < 42) m (next-point j word-number (subst (λ (x : ℕ). x < 64) m l));
       goes =
           let e : at + (to - from) - at ≡ to - from = omega arith in
-          onward ∙ ap₂ (λ (x y : ℕ). shifted x (plainly y (drop (at + (to - from)) s))) (sym e) (sym m);
+          onward ∙ ap₂ (λ (x y : ℕ). shifted x (rest y (drop (at + (to - from)) s))) (sym e) (sym m);
     }
 
-    in-comment : 64 ≤ n → by-words q (drop at s) ≡ shifted (to - from) (up-to (text "-->") [] (plainly (n - 64)) (drop (at + (to - from)) s))
+    in-comment : 64 ≤ n → words-ahead q (drop at s) ≡ shifted (to - from) (up-to (text "-->") [] (rest (n - 64)) (drop (at + (to - from)) s))
     in-comment l =
         onward
-        ∙ ap (λ (x : ℕ). shifted (to - from) (plainly x (drop (at + (to - from)) s))) (sym m)
-        ∙ ap (λ (r : List ℕ → Only). shifted (to - from) (r (drop (at + (to - from)) s)))
-        (rest-comment n l (subst⁻¹ (λ (x : ℕ). x < 106) m (next-comment j word-number (subst (λ (x : ℕ). 64 ≤ x) m l))))
+        ∙ ap (λ (x : ℕ). shifted (to - from) (rest x (drop (at + (to - from)) s))) (sym m)
+        ∙ ap (λ (r : List ℕ → Ahead). shifted (to - from) (r (drop (at + (to - from)) s)))
+        (ahead-comment n l (subst⁻¹ (λ (x : ℕ). x < 106) m (next-comment j word-number (subst (λ (x : ℕ). 64 ≤ x) m l))))
 
-    pub word-comment : 64 ≤ n → (z : ℕ) → ClosedAt (closing true) s (at + (to - from)) z → Reached (by-words q) s at z (n - 64)
+    pub word-comment : 64 ≤ n → (z : ℕ) → ClosedAt (closing true) s (at + (to - from)) z → Reached rest (words-ahead q) s at z (n - 64)
     word-comment l z c = record {
       forward = omega (arith, c .forward);
       inside = c .inside;
@@ -114,33 +114,33 @@ module _ (s : List ℕ) (at q j from to : ℕ) (i : at ≤ length s) (h : q < 42
       goes =
           let e : (to - from) + (z - (at + (to - from))) ≡ z - at = omega (arith, c .forward) in
           in-comment l
-          ∙ ap (shifted (to - from)) (c .goes (plainly (n - 64)))
-          ∙ shifted-add (to - from) (z - (at + (to - from))) (plainly (n - 64) (drop z s))
-          ∙ ap (λ (x : ℕ). shifted x (plainly (n - 64) (drop z s))) e;
+          ∙ ap (shifted (to - from)) (c .goes (rest (n - 64)))
+          ∙ shifted-add (to - from) (z - (at + (to - from))) (rest (n - 64) (drop z s))
+          ∙ ap (λ (x : ℕ). shifted x (rest (n - 64) (drop z s))) e;
     }
 
-    pub word-open : 64 ≤ n → NotClosed (closing true) s (at + (to - from)) → Broken (by-words q) s at (length s)
+    pub word-open : 64 ≤ n → NotClosed (closing true) s (at + (to - from)) → Broken (words-ahead q) s at (length s)
     word-open l c = record {
       forward = i;
       stops =
           let w : at + (to - from) ≤ length s = word-inside in
           let e : (to - from) + (length s - (at + (to - from))) ≡ length s - at = omega (arith, w) in
           in-comment l
-          ∙ ap (shifted (to - from)) (c .stops (plainly (n - 64)))
+          ∙ ap (shifted (to - from)) (c .stops (rest (n - 64)))
           ∙ shifted-wrong (to - from) (length s - (at + (to - from)))
           ∙ ap wrong e;
     }
 
-    pub word-comment-by : 64 ≤ n → (d : Close) → Closes (closing true) s (at + (to - from)) d → (z : ℕ) → d ≡ At z → Reached (by-words q) s at z (n - 64)
+    pub word-comment-by : 64 ≤ n → (d : Close) → Closes (closing true) s (at + (to - from)) d → (z : ℕ) → d ≡ At z → Reached rest (words-ahead q) s at z (n - 64)
     word-comment-by l d c z e = word-comment l z (subst (Closes (closing true) s (at + (to - from))) e c)
 
-    pub word-open-by : 64 ≤ n → (d : Close) → Closes (closing true) s (at + (to - from)) d → d ≡ Open → Broken (by-words q) s at (length s)
+    pub word-open-by : 64 ≤ n → (d : Close) → Closes (closing true) s (at + (to - from)) d → d ≡ Open → Broken (words-ahead q) s at (length s)
     word-open-by l d c e = word-open l (subst (Closes (closing true) s (at + (to - from))) e c)
 
-pub word-missed : (s : List ℕ) (at q m : ℕ) → Missing q (drop at s) m → Broken (by-words q) s at (at + m)
+pub word-missed : (s : List ℕ) (at q m : ℕ) → Missing q (drop at s) m → Broken (words-ahead q) s at (at + m)
 word-missed s at q m c = record {
   forward = omega arith;
-  stops = let e : m ≡ at + m - at = omega arith in c .stops plainly ∙ ap wrong e;
+  stops = let e : m ≡ at + m - at = omega arith in c .stops rest ∙ ap wrong e;
 }
 
 pub missed-inside : (s : List ℕ) (at q m : ℕ) → at ≤ length s → Missing q (drop at s) m → at + m ≤ length s
@@ -152,7 +152,7 @@ chose-word q t r c j e = subst (Chose q t) e c
 pub chose-number : (q : ℕ) (t : List ℕ) (r : Chosen) → q < 42 → Chose q t r → (j : ℕ) → r ≡ Word j → j < 123
 chose-number q t r h c j e = found-number q t j h (chose-word q t r c j e)
 
-pub missed-by : (s : List ℕ) (at q : ℕ) (r : Chosen) → Chose q (drop at s) r → (m : ℕ) → r ≡ Missed m → Broken (by-words q) s at (at + m)
+pub missed-by : (s : List ℕ) (at q : ℕ) (r : Chosen) → Chose q (drop at s) r → (m : ℕ) → r ≡ Missed m → Broken (words-ahead q) s at (at + m)
 missed-by s at q r c m e = word-missed s at q m (subst (Chose q (drop at s)) e c)
 
 pub missed-inside-by : (s : List ℕ) (at q : ℕ) (r : Chosen) → at ≤ length s → Chose q (drop at s) r → (m : ℕ) → r ≡ Missed m → at + m ≤ length s

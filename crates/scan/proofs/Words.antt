@@ -11,27 +11,27 @@ use lib.Seq.{drop-cons}
 use borrow.Author.Tests.{eq-eqb, ne-eqb}
 use Rattle.octets.specs.Lists.{pick}
 use Rattle.octets.proofs.Tests.{is-true, test-cases, T-of}
-use Rattle.grammar.specs.Reading.{wrong, later, expect}
-use Rattle.grammar.specs.Inner.Made.{Only, shifted}
+use Rattle.grammar.specs.Reading.{Read, wrong, later, expect}
+use Rattle.grammar.specs.Inner.Made.{shifted}
 use Rattle.scan.specs.Inner.Points.{common}
 
 -- ---- what stands there and what is read
 
-miss-by : (e : Bool) (m n : ℕ) (x : Only) → ((m ≡ n → ⊥) → x ≡ wrong m) → (pick e (suc m) 0 ≡ suc n → ⊥)
+miss-by : {R : Type 0} (e : Bool) (m n : ℕ) (x : Read R) → ((m ≡ n → ⊥) → x ≡ wrong m) → (pick e (suc m) 0 ≡ suc n → ⊥)
     → pick e (later x) (wrong 0) ≡ wrong (pick e (suc m) 0)
 miss-by true m n x f h = ap later (f (λ e. h (ap suc e)))
 miss-by false m n x f h = refl
 
-pub expect-miss : (w : List ℕ) (k : List ℕ → Only) (t : List ℕ) → (common w t ≡ length w → ⊥) → expect w k t ≡ wrong (common w t)
+pub expect-miss : {R : Type 0} (w : List ℕ) (k : List ℕ → Read R) (t : List ℕ) → (common w t ≡ length w → ⊥) → expect w k t ≡ wrong (common w t)
 expect-miss [] k t h = absurd (h refl)
 expect-miss (c ∷ w) k [] h = refl
 expect-miss (c ∷ w) k (b ∷ t) h = miss-by (eqb c b) (common w t) (length w) (expect w k t) (expect-miss w k t) h
 
-whole-by : (e : Bool) (m n : ℕ) (x y : Only) → (m ≡ n → x ≡ y) → pick e (suc m) 0 ≡ suc n → pick e (later x) (wrong 0) ≡ later y
+whole-by : {R : Type 0} (e : Bool) (m n : ℕ) (x y : Read R) → (m ≡ n → x ≡ y) → pick e (suc m) 0 ≡ suc n → pick e (later x) (wrong 0) ≡ later y
 whole-by true m n x y f h = ap later (f (omega (arith, h)))
 whole-by false m n x y f h = absurd (omega (arith, h))
 
-pub expect-whole : (w : List ℕ) (k : List ℕ → Only) (t : List ℕ) → common w t ≡ length w
+pub expect-whole : {R : Type 0} (w : List ℕ) (k : List ℕ → Read R) (t : List ℕ) → common w t ≡ length w
     → expect w k t ≡ shifted (length w) (k (drop (length w) t))
 expect-whole [] k t h = refl
 expect-whole (c ∷ w) k [] h = absurd (omega (arith, h))

@@ -7,7 +7,7 @@ ghost use Rattle.grammar.specs.Reading.{larger, read-text};
 ghost use Rattle.grammar.specs.Inner.Made.{forget, shifted};
 ghost use Rattle.scan.specs.Table.{digit, profile-text};
 ghost use Rattle.scan.specs.Inner.Rests.{plainly};
-ghost use Rattle.scan.specs.Inner.Turns.{Turns, by-words, scan-out};
+ghost use Rattle.scan.specs.Inner.Turns.{Turns, TurnsAhead, words-ahead, scan-out};
 ghost use Rattle.scan.specs.Inner.Points.{word-at, common, class-of, run, kind-of, Chose, ends-by, closing, Closes, Found};
 use crate::points::first_of;
 use crate::points::letter;
@@ -164,7 +164,7 @@ fn kind_of(q: usize) -> usize
 // Behind word j of point q, and behind the comment where it begins one.
 fn behind_word(s: &[u8], at: usize, q: usize, j: usize) -> Turn
     requires { ⌜ (at ≤ length (now s)) × (q < 42) × (j < 123) × Found q (drop at (now s)) j ⌝ }
-    ensures { λ r. ⌜ Turns (by-words q) (now (s .entry)) at r ⌝ }
+    ensures { λ r. ⌜ TurnsAhead (words-ahead q) (now (s .entry)) at r ⌝ }
 {
     let from = start_of(j);
     let to = start_of(j + 1);
@@ -183,7 +183,7 @@ fn behind_word(s: &[u8], at: usize, q: usize, j: usize) -> Turn
 // By the words of point q.
 fn word_turn(s: &[u8], at: usize, q: usize) -> Turn
     requires { ⌜ (at ≤ length (now s)) × (q < 42) ⌝ }
-    ensures { λ r. ⌜ Turns (by-words q) (now (s .entry)) at r ⌝ }
+    ensures { λ r. ⌜ TurnsAhead (words-ahead q) (now (s .entry)) at r ⌝ }
 {
     let c = choose(s, at, q);
     match c {

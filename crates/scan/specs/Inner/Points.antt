@@ -10,6 +10,7 @@ use Rattle.octets.specs.Lists.{pick, text}
 use Rattle.cuts.specs.Inner.Searching.{first}
 use Rattle.grammar.specs.Reading.{Read, wrong, better, expect, up-to}
 use Rattle.grammar.specs.Inner.Made.{shifted}
+use Rattle.scan.specs.Inner.Events.{Event}
 use Rattle.scan.specs.Table.{blank, digit, plain}
 use Rattle.scan.specs.declared.scanner.Chosen.{Chosen}
 use Rattle.scan.specs.declared.scanner.Chosen.the-variants.{Word, Missed}
@@ -112,11 +113,11 @@ pub record Found (q : ℕ) (t : List ℕ) (j : ℕ) : Type 0 where
   pub from : first-word q ≤ j
   pub under : j < first-word (suc q)
   pub whole : common (word-at j) t ≡ length (word-at j)
-  pub goes : (k : ℕ → List ℕ → Read (Unit {0})) → choices k (first-word q) (word-count q) t ≡ shifted (length (word-at j)) (k (getD nexts j 0) (drop (length (word-at j)) t))
+  pub goes : (k : ℕ → List ℕ → Read (List Event)) → choices k (first-word q) (word-count q) t ≡ shifted (length (word-at j)) (k (getD nexts j 0) (drop (length (word-at j)) t))
 
 pub record Missing (q : ℕ) (t : List ℕ) (m : ℕ) : Type 0 where
   pub within : m ≤ length t
-  pub stops : (k : ℕ → List ℕ → Read (Unit {0})) → choices k (first-word q) (word-count q) t ≡ wrong m
+  pub stops : (k : ℕ → List ℕ → Read (List Event)) → choices k (first-word q) (word-count q) t ≡ wrong m
 
 abbrev pub Chose : ℕ → List ℕ → Chosen → Type 0
 Chose q t (Word j) = Found q t j
@@ -140,10 +141,10 @@ ends-by comment q p b = pick comment (eqb 62 b && (eqb 45 p && eqb 45 q)) (eqb 6
 pub record ClosedAt (w s : List ℕ) (at e : ℕ) : Type 0 where
   pub forward : at < e
   pub inside : e ≤ length s
-  pub goes : (k : List ℕ → Read (Unit {0})) → up-to w [] k (drop at s) ≡ shifted (e - at) (k (drop e s))
+  pub goes : (k : List ℕ → Read (List Event)) → up-to w [] k (drop at s) ≡ shifted (e - at) (k (drop e s))
 
 pub record NotClosed (w s : List ℕ) (at : ℕ) : Type 0 where
-  pub stops : (k : List ℕ → Read (Unit {0})) → up-to w [] k (drop at s) ≡ wrong (length s - at)
+  pub stops : (k : List ℕ → Read (List Event)) → up-to w [] k (drop at s) ≡ wrong (length s - at)
 
 abbrev pub Closes : List ℕ → List ℕ → ℕ → Close → Type 0
 Closes w s at (At e) = ClosedAt w s at e
