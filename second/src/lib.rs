@@ -5,6 +5,7 @@ pub mod bulk;
 pub mod calls;
 pub mod case;
 pub mod criterion;
+pub mod extended;
 pub mod files;
 pub mod image;
 pub mod lines;

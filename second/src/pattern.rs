@@ -4,7 +4,7 @@ use crate::bracket;
 use crate::twist::{twisted, Twist};
 
 /// A set of the 256 bytes.
-#[derive(Clone, Copy, PartialEq, Eq, Debug)]
+#[derive(Clone, Copy, PartialEq, Eq, Hash, Debug)]
 pub struct Set([u64; 4]);
 
 impl Set {
@@ -215,7 +215,7 @@ impl Reading<'_> {
 }
 
 /// "`.` and a `^` list never meet byte 0."
-fn dot() -> Set {
+pub fn dot() -> Set {
     let mut set = Set::EMPTY.complement();
     if !twisted(Twist::DotMeetsZero) {
         set.remove(0);

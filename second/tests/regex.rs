@@ -10,67 +10,14 @@
 //!
 //! No form that document 01 accepts is left out but for byte 0: on all others the two agree.
 
+#[path = "common/c_library.rs"]
+mod c_library;
+
+use c_library::{Regex, BASIC};
 use second::maker::random::Random;
 use second::matching::{matches, Letters};
 use second::pattern;
 use second::place::place;
-use std::ffi::{c_char, c_int, c_void, CString};
-
-/// Larger than `regex_t` of any libc this runs on (64 bytes with glibc).
-#[repr(C, align(16))]
-struct Opaque([u8; 512]);
-
-unsafe extern "C" {
-    fn regcomp(regex: *mut c_void, pattern: *const c_char, flags: c_int) -> c_int;
-    fn regexec(
-        regex: *const c_void,
-        text: *const c_char,
-        count: usize,
-        parts: *mut c_void,
-        flags: c_int,
-    ) -> c_int;
-    fn regfree(regex: *mut c_void);
-}
-
-struct Regex(Opaque);
-
-impl Regex {
-    fn new(text: &[u8]) -> Option<Regex> {
-        let text = CString::new(text).expect("no byte 0");
-        let mut regex = Regex(Opaque([0; 512]));
-        // SAFETY: the buffer is large enough for a regex_t and the text ends in byte 0.
-        let error = unsafe { regcomp(regex.0 .0.as_mut_ptr().cast(), text.as_ptr(), 0) };
-        if error == 0 {
-            return Some(regex);
-        }
-        // A failed regcomp leaves nothing to free.
-        std::mem::forget(regex);
-        None
-    }
-
-    fn matches(&self, text: &[u8]) -> bool {
-        let text = CString::new(text).expect("no byte 0");
-        // SAFETY: the buffer holds a compiled regex_t; no parts are asked for.
-        unsafe { regexec(self.0 .0.as_ptr().cast(), text.as_ptr(), 0, std::ptr::null_mut(), 0) == 0 }
-    }
-
-    /// Start and end of "the leftmost, and of those the longest" part, as POSIX has it too.
-    fn place(&self, text: &[u8]) -> Option<(c_int, c_int)> {
-        let text = CString::new(text).expect("no byte 0");
-        let mut part = [0 as c_int; 2];
-        // SAFETY: as above; one part is asked for, a regmatch_t of two regoff_t, which are int.
-        let met =
-            unsafe { regexec(self.0 .0.as_ptr().cast(), text.as_ptr(), 1, part.as_mut_ptr().cast(), 0) == 0 };
-        met.then_some((part[0], part[1]))
-    }
-}
-
-impl Drop for Regex {
-    fn drop(&mut self) {
-        // SAFETY: made by a successful regcomp, freed once.
-        unsafe { regfree(self.0 .0.as_mut_ptr().cast()) }
-    }
-}
 
 const PATTERN_BYTES: &[u8] = b"aab--]]^$**..\\[[cz%/+\x80\xFF\n";
 const TEXT_BYTES: &[u8] = b"aaabbc-]^$*.\\[%/+z\x80\xFF\n,";
@@ -117,15 +64,13 @@ fn agrees_with_the_c_library() {
         let pattern = pattern_text(&mut random);
         let Some(read) = pattern::read(&pattern) else { continue };
         let shown = pattern.escape_ascii();
-        let regex = Regex::new(&pattern).unwrap_or_else(|| panic!("only ours accepts {shown}"));
+        let regex = Regex::new(&pattern, BASIC).unwrap_or_else(|| panic!("only ours accepts {shown}"));
         lists += pattern.contains(&b'[') as usize;
         for _ in 0..6 {
             let text = text(&mut random, TEXT_BYTES, 7);
             let ours = matches(&read, &text, Letters::AsWritten);
             assert_eq!(ours, regex.matches(&text), "{shown} on {}", text.escape_ascii());
-            let placed = place(&read, &text)
-                .map(|place| (place.start as c_int, (place.start + place.length) as c_int));
-            assert_eq!(placed, regex.place(&text), "{shown} on {}", text.escape_ascii());
+            assert_eq!(place(&read, &text), regex.place(&text), "{shown} on {}", text.escape_ascii());
             compared += 1;
             matched += ours as usize;
         }
@@ -148,7 +93,7 @@ fn lists_hold_the_same_bytes() {
         pattern.extend(b"]$");
         let Some(read) = pattern::read(&pattern) else { continue };
         let shown = pattern.escape_ascii();
-        let regex = Regex::new(&pattern).unwrap_or_else(|| panic!("only ours accepts {shown}"));
+        let regex = Regex::new(&pattern, BASIC).unwrap_or_else(|| panic!("only ours accepts {shown}"));
         for byte in 1..=255u8 {
             assert_eq!(
                 matches(&read, &[byte], Letters::AsWritten),
@@ -177,6 +122,6 @@ fn refused_by_both() {
         b"[b-a",
     ] {
         assert!(pattern::read(pattern).is_none(), "{}", pattern.escape_ascii());
-        assert!(Regex::new(pattern).is_none(), "{}", pattern.escape_ascii());
+        assert!(Regex::new(pattern, BASIC).is_none(), "{}", pattern.escape_ascii());
     }
 }
