@@ -27,3 +27,4 @@ pub mod show;
 pub mod shown;
 pub mod token;
 pub mod twist;
+pub mod xml;

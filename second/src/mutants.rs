@@ -1,8 +1,10 @@
-//! Runs the made cases against each twist and says which case tells it from the original.
+//! Runs the made cases against each twist and says which case tells it from the original. No case asks for operators' XML, so the
+//! twists of that are told by its fixed texts.
 
 use crate::case::{answer, Answer, Case};
-use crate::maker;
+use crate::maker::{self, texts::Fixed};
 use crate::twist::{choose, Twist, ALL};
+use crate::xml::{self, reader::Reader};
 use std::panic::{self, AssertUnwindSafe};
 
 /// Twists that change no answer, with the reason. A twist told in spite of standing here is
@@ -22,16 +24,21 @@ pub fn run(seed: u64, count: usize) -> bool {
     // Small cases first: most twists are told by one of them.
     cases.sort_by_key(|case| case.image.len() + case.request.len());
     let right: Vec<Answer> = cases.iter().map(answer).collect();
+    let texts = texts();
     panic::set_hook(Box::new(|_| {}));
     let mut told = 0;
     let mut failed = 0;
     for &(twist, text) in ALL {
-        let by = telling(twist, &cases, &right);
+        let by = match of_xml(twist) {
+            true => telling_text(twist, &texts).map(|text| format!("Xml, {}", shortened(&text.label))),
+            false => telling(twist, &cases, &right)
+                .map(|case| format!("{:?}, {}", case.call, shortened(&case.label))),
+        };
         let same = SAME_ANSWERS.iter().find(|(listed, _)| *listed == twist);
         match (by, same) {
-            (Some(case), None) => {
+            (Some(by), None) => {
                 told += 1;
-                println!("told   {twist:?}: {text}; by {:?}, {}", case.call, shortened(&case.label));
+                println!("told   {twist:?}: {text}; by {by}");
             }
             (None, Some((_, reason))) => println!("same   {twist:?}: {text}; {reason}"),
             (None, None) => {
@@ -60,6 +67,31 @@ fn telling<'a>(twist: Twist, cases: &'a [Case], right: &[Answer]) -> Option<&'a 
         twisted.map_or(true, |twisted| twisted != *right)
     };
     let found = cases.iter().zip(right).find(|(case, right)| differs(case, right)).map(|(case, _)| case);
+    choose(None);
+    found
+}
+
+pub fn of_xml(twist: Twist) -> bool {
+    format!("{twist:?}").starts_with("Xml")
+}
+
+/// The fixed texts, short ones first.
+pub fn texts() -> Vec<Fixed> {
+    let mut texts = maker::texts::cases();
+    texts.sort_by_key(|text| text.text.len());
+    texts
+}
+
+/// The first text whose answer is not the one taken by hand.
+pub fn telling_text(twist: Twist, texts: &[Fixed]) -> Option<&Fixed> {
+    choose(Some(twist));
+    let reader = Reader::new();
+    let differs = |text: &&Fixed| {
+        let given =
+            panic::catch_unwind(AssertUnwindSafe(|| xml::answer(&reader, &text.text, &text.room_before())));
+        given.map_or(true, |given| given != text.answer())
+    };
+    let found = texts.iter().find(differs);
     choose(None);
     found
 }

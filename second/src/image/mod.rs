@@ -26,6 +26,11 @@ pub fn read(image: &[u8]) -> Result<Profile, Fault> {
         let place = if twisted(Twist::OverlongPlacedAtLimit) { most_bytes() } else { 0 };
         return Err(Fault { number: 1, place });
     }
+    judged(image)
+}
+
+/// The faults 2 to 6 of an image of any length.
+pub fn judged(image: &[u8]) -> Result<Profile, Fault> {
     let mut walk = Walk { image, place: 0, judge: Judge::new(image) };
     walk.field(Field::Edition, 1)?;
     for section in &SECTIONS {

@@ -8,6 +8,7 @@ pub mod faults;
 pub mod few;
 pub mod lean;
 pub mod masses;
+pub mod operators;
 pub mod orders;
 pub mod patterns;
 pub mod plains;
@@ -15,6 +16,7 @@ pub mod points;
 pub mod random;
 pub mod requests;
 pub mod shows;
+pub mod texts;
 pub mod types;
 pub mod walks;
 
