@@ -82,7 +82,7 @@ def main():
     for f in files + sources + edits:
         text = open(f, encoding="utf-8").read()
         theirs = imported(code(text))[0] if f.endswith(".antt") else library
-        new = respell(text, lambda w: w in names and w not in theirs)
+        new = respell(text, lambda w: w in names and w not in theirs).replace("Memᴰ.not_nil", "Memᴰ.not-nil")
         if new != text:
             open(f, "w", encoding="utf-8").write(new)
     print(len(names), "names turned")

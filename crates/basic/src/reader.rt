@@ -9,7 +9,7 @@ ghost use Rattle.basic.specs.Inner.Drawn.{drawn};
 use crate::draw::{any, closed, lone, widen};
 
 // What stands in a list: from lo to hi.
-#[derive(Drop)]
+#[derive(Clone, Copy)]
 pub struct Item {
     pub end: usize,
     pub lo: u8,
@@ -17,7 +17,7 @@ pub struct Item {
 }
 
 // An atom: the bytes that it meets, where sets are asked for.
-#[derive(Drop)]
+#[derive(Clone, Copy)]
 pub struct Piece {
     pub end: usize,
     pub set: [u64; 4],

@@ -1,4 +1,5 @@
 // What is composed from operators' XML (change request 3): strings, and the groups of a row.
+#![tactic(auto)]
 mod groups;
 mod strings;
 

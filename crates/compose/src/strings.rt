@@ -36,7 +36,7 @@ pub fn store_text(t: &[u8], image: &mut [u8], at: usize) -> usize
 }
 
 // A string that is among those stored; or one that was stored, with what stands behind it; or one for which the table has no place.
-#[derive(Drop)]
+#[derive(Clone, Copy)]
 pub enum Added {
     Known,
     New(usize),

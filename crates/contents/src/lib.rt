@@ -1,5 +1,6 @@
 // What stands in a request's fields and body: the values of a field, reduced and cut at commas, and the lines of a body. The definitions
 // stand in specs/.
+#![tactic(auto)]
 mod body_lines;
 mod description;
 mod names;
@@ -11,7 +12,7 @@ pub use crate::names::{as_matched, long_names, never_cut};
 pub use crate::pieces::{next_value, normalise};
 
 // A piece of a value, trimmed: it stands from start to end; the next one is to be looked for at next, if that is not past the value's end.
-#[derive(Drop)]
+#[derive(Clone, Copy)]
 pub struct Piece {
     pub start: usize,
     pub end: usize,
@@ -19,7 +20,7 @@ pub struct Piece {
 }
 
 // A line of a body. One that is a field has its type, a byte, at start, and its value from value to end. The next line starts at next.
-#[derive(Drop)]
+#[derive(Clone, Copy)]
 pub enum BodyLine {
     Typed {
         start: usize,

@@ -9,7 +9,7 @@ ghost use Rattle.contents.specs.Values.{plain, step, cuts, reduced};
 use crate::Piece;
 
 // Where a byte of a value stands: in plain text, in quoted text, in it just after `\`, or in `<>`.
-#[derive(Drop)]
+#[derive(Clone, Copy)]
 pub(crate) enum Within {
     Text,
     Quotes,

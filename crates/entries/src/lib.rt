@@ -1,4 +1,5 @@
 // Reads the rows, memberships and criteria of a profile image: section by section, and each by value at its place.
+#![tactic(auto)]
 ghost use Rattle.std.specs.Prelude.{◌≡◌, ◌+◌, ◌≤◌, length};
 ghost use Rattle.entries.specs.Inner.Places.{row_numbers, member_numbers, trigger_numbers, criterion_numbers};
 
@@ -13,14 +14,14 @@ use cells::{number, priority};
 use octets::from_byte;
 
 // What reading a membership gives: its row and its group, or the refusal.
-#[derive(Drop)]
+#[derive(Clone, Copy)]
 pub enum Pair {
     Both(usize, usize),
     Refused { number: u8, place: usize },
 }
 
 // A trigger row's numbers, as they stand in the image.
-#[derive(Drop)]
+#[derive(Clone, Copy)]
 pub struct Row {
     pub negated: usize,
     pub kind: usize,
@@ -30,14 +31,14 @@ pub struct Row {
 }
 
 // A membership's numbers.
-#[derive(Drop)]
+#[derive(Clone, Copy)]
 pub struct Member {
     pub row: usize,
     pub group: usize,
 }
 
 // A criterion's form, first row and row count.
-#[derive(Drop)]
+#[derive(Clone, Copy)]
 pub struct Trigger {
     pub form: usize,
     pub first: usize,
@@ -45,7 +46,7 @@ pub struct Trigger {
 }
 
 // A criterion's numbers.
-#[derive(Drop)]
+#[derive(Clone, Copy)]
 pub struct Criterion {
     pub priority: usize,
     pub part: usize,

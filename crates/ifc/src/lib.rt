@@ -1,4 +1,5 @@
 // The calls as C makes them: numbers and bytes in, numbers out. Nothing but passing on.
+#![tactic(auto)]
 ghost use Rattle.bulk.specs.Bulk.{ReportsTo};
 ghost use Rattle.ifc.specs.Exports.{session_of, CheckTo, OpenTo, ReportTo, AdvanceTo, ListTo, ServerTo, InformationTo, ShowTo, PlainTo};
 

@@ -1,4 +1,5 @@
 // The check of an image, and the lookups of a criterion's server and service information. The definitions stand in specs/.
+#![tactic(auto)]
 ghost use Rattle.std.specs.Prelude.{◌≡◌, ◌+◌, ◌≤◌, length};
 ghost use Rattle.std.proofs.Math.Option.{some};
 ghost use Rattle.octets.specs.Lists.{pick};
@@ -9,14 +10,14 @@ ghost use Rattle.lookups.specs.Lookups.{no_part, the_part, part_of, server as se
 ghost use Rattle.lookups.specs.Inner.Looking.{Looks};
 
 // What the check of an image answers: the refusal number (0 if none) and its place.
-#[derive(Drop)]
+#[derive(Clone, Copy)]
 pub struct Checked {
     pub refusal: u32,
     pub place: u32,
 }
 
 // What a lookup answers: the refusal number (0 if none) and its place, whether the part is present, and where it stands in the image.
-#[derive(Drop)]
+#[derive(Clone, Copy)]
 pub struct Lookup {
     pub refusal: u32,
     pub place: u32,

@@ -1,4 +1,5 @@
 // The matcher: a machine of at most 60 positions, a bit for each. It knows no edition of patterns.
+#![tactic(auto)]
 ghost use Rattle.std.specs.Prelude.{◌≡◌, true, false, not, ◌||◌, [], ◌+◌, ◌<◌, ◌≤◌, eqb, get_or, length};
 ghost use Rattle.std.specs.Int.Bits.{bit_and};
 ghost use Rattle.octets.specs.Lists.{pick};
@@ -8,7 +9,7 @@ ghost use Rattle.machine.specs.Inner.Machine.{Closed, Stepped, SomeMet, Leftmost
 // How many positions there are, which the matching need not ask (`Closed`); which of them may begin a part, at the text's start or
 // elsewhere; which may end one, at the text's end or elsewhere; and whether the empty part fits: as the whole text, at its start, at its
 // end, or between.
-#[derive(Drop)]
+#[derive(Clone, Copy)]
 pub struct Shape {
     pub size: usize,
     pub start: u64,
@@ -22,7 +23,7 @@ pub struct Shape {
 }
 
 // Positions that are live before a byte, and those that may stand before one of them.
-#[derive(Drop)]
+#[derive(Clone, Copy)]
 pub struct Front {
     pub live: u64,
     pub next: u64,

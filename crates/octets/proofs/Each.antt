@@ -24,6 +24,6 @@ module _ {A : Type 0} (P : A → Type 0) where
 
   -- every member
   pub each_member : (l : List A) (a : A) → Each P l → Memᴰ a l → P a
-  each_member [] a h d = absurd (Memᴰ.not_nil d)
+  each_member [] a h d = absurd (Memᴰ.not-nil d)
   each_member (b ∷ l) a h (Memᴰ.head e) = subst P (sym e) h.0
   each_member (b ∷ l) a h (Memᴰ.tail d) = each_member l a h.1 d

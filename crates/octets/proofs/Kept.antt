@@ -21,7 +21,7 @@ module _ {A : Type 0} (f : A → Bool) where
   kept x l false a e ih d = let r = ih d in (Memᴰ.tail r.0, r.1)
 
   pub only_sound : (l : List A) (a : A) → Memᴰ a (only f l) → Memᴰ a l × T (f a)
-  only_sound [] a d = absurd (Memᴰ.not_nil d)
+  only_sound [] a d = absurd (Memᴰ.not-nil d)
   only_sound (x ∷ l) a d = kept x l (f x) a refl (only_sound l a) d
 
   keep_head : (x : A) (l : List A) (b : Bool) (a : A) → f x ≡ b → a ≡ x → T (f a) → Memᴰ a (pick b (x ∷ only f l) (only f l))

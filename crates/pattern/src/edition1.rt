@@ -12,7 +12,7 @@ use machine::Shape;
 
 // Of the elements before the position `at`: those that may come right before it, and those that may come first, with `at` among
 // them where all before it may be left out. So an element that does not repeat leaves the latter alone.
-#[derive(Drop)]
+#[derive(Clone, Copy)]
 pub struct Marks {
     pub at: usize,
     pub run: u64,

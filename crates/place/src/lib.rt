@@ -1,4 +1,5 @@
 // Where a pattern matches a text: "the smallest start, and of those the longest length" (document 02, change request 2).
+#![tactic(auto)]
 ghost use Rattle.std.specs.Prelude.{◌≡◌, Bool, List, ℕ};
 ghost use Rattle.machine.specs.Inner.Machine.{Closed};
 ghost use Rattle.pattern.specs.Inner.Prepared.{Ready};
@@ -9,7 +10,7 @@ use machine::{Shape, leftmost};
 use part::longest;
 
 // Whether there is one, the place of its first byte, and how many bytes it has; 0 and 0 where there is none.
-#[derive(Drop)]
+#[derive(Clone, Copy)]
 pub struct Place {
     pub found: bool,
     pub start: usize,

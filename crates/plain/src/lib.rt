@@ -4,6 +4,7 @@
 // It calls three functions from below: `is_pattern(p)` says whether p is a pattern at all, `peek_at(s, i)` is the byte at i of s, or 256
 // past its end, and `to_long(n)` is n in four bytes. Behind `is_pattern` no fault is looked for.
 // The bytes are 36 `$`, 42 `*`, 45 `-`, 46 `.`, 91 `[`, 92 `\`, 93 `]`, 94 `^`.
+#![tactic(auto)]
 ghost use Rattle.std.specs.Prelude.{◌≡◌, not, ◌&&◌, ◌||◌, ◌+◌, ◌≤◌, ◌<◌, ltb, length, drop};
 ghost use Rattle.octets.specs.Lists.{pick};
 ghost use Rattle.basic.specs.Reading.{range_opens};
@@ -14,7 +15,7 @@ use basic::{is_pattern, peek_at};
 use octets::to_long;
 
 // The refusal number, whether some part fits, the place of its first byte and how many bytes it has.
-#[derive(Drop)]
+#[derive(Clone, Copy)]
 pub struct Answer {
     pub refusal: u32,
     pub found: bool,
@@ -23,14 +24,14 @@ pub struct Answer {
 }
 
 // Whether what is left of the pattern fits here, and how many bytes it takes at most.
-#[derive(Drop)]
+#[derive(Clone, Copy)]
 pub struct Way {
     pub found: bool,
     pub size: usize,
 }
 
 // Whether an element without its `*` takes a byte, and where it ends in the pattern.
-#[derive(Drop)]
+#[derive(Clone, Copy)]
 pub struct Trial {
     pub takes: bool,
     pub end: usize,

@@ -1,4 +1,5 @@
 // Judges a profile image: accepted, or refused with a number and a place.
+#![tactic(auto)]
 ghost use Rattle.std.specs.Prelude.{◌≡◌, [], ◌+◌, ◌≤◌, length};
 ghost use Rattle.cells.specs.Inner.Places.{texts};
 ghost use Rattle.entries.specs.Inner.Places.{spaced, row_numbers, member_numbers};
@@ -14,7 +15,7 @@ use entries::{all_placed, criteria, members, rows};
 
 // An accepted image's edition, and where its parts lie: how many strings, and the first byte and the number of the rows, memberships
 // and criteria.
-#[derive(Drop)]
+#[derive(Clone, Copy)]
 pub struct Layout {
     pub edition: usize,
     pub strings: usize,
@@ -27,7 +28,7 @@ pub struct Layout {
 }
 
 // The judgement of an image.
-#[derive(Drop)]
+#[derive(Clone, Copy)]
 pub enum Judged {
     Accepted(Layout),
     Refused { number: u8, place: usize },
@@ -165,7 +166,7 @@ pub fn judge_faults(s: &[u8], table: &mut [u16; 1024]) -> Judged
 // ---- what the crates above call
 
 // What is kept of a judged image: the refusal with its place, or 0 and where its sections and strings lie.
-#[derive(Drop)]
+#[derive(Clone, Copy)]
 pub struct Judgement {
     pub refusal: u32,
     pub place: u32,

@@ -127,12 +127,12 @@ module _ (s : Step) where
 -- ---- a number names one criterion
 
 number_from : {n : Numbered} (i : ℕ) (cs : List Criterion) → Memᴰ n (numbered i cs) → i ≤ n.number
-number_from i [] d = absurd (Memᴰ.not_nil d)
+number_from i [] d = absurd (Memᴰ.not-nil d)
 number_from i (c ∷ cs) (Memᴰ.head e) = le_of_eq (sym (ap (λ (k : Numbered). k.number) e))
 number_from i (c ∷ cs) (Memᴰ.tail d) = omega (arith, number_from (suc i) cs d)
 
 same_number : {m n : Numbered} (i : ℕ) (cs : List Criterion) → Memᴰ m (numbered i cs) → Memᴰ n (numbered i cs) → m.number ≡ n.number → m ≡ n
-same_number i [] d e q = absurd (Memᴰ.not_nil d)
+same_number i [] d e q = absurd (Memᴰ.not-nil d)
 same_number i (c ∷ cs) (Memᴰ.head a) (Memᴰ.head b) q = a ∙ sym b
 same_number i (c ∷ cs) (Memᴰ.head a) (Memᴰ.tail e) q =
     let z : _ ≡ i = ap (λ (k : Numbered). k.number) a in absurd (omega (arith, number_from (suc i) cs e))

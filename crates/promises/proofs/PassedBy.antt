@@ -66,7 +66,7 @@ ahead_before s k = ahead_by s k (came s)
 
 -- a walk with a step begins ready
 walk_ready : {x : Session} {w : List Step} → Walk x w → (s : Step) → Memᴰ s w → x.state ≡ ready
-walk_ready (at_end h) s d = absurd (Memᴰ.not_nil d)
+walk_ready (at_end h) s d = absurd (Memᴰ.not-nil d)
 walk_ready (stopped u r h) s d = r
 walk_ready (step_and u r h w) s d = r
 
@@ -76,14 +76,14 @@ module _ (k : ℕ) where
 
   -- what is behind is not asked any more
   behind_never : {x : Session} {w : List Step} → Walk x w → (T (ahead x k) → ⊥) → NoneAsked w k
-  behind_never (at_end h) b n e t d a = Memᴰ.not_nil d
+  behind_never (at_end h) b n e t d a = Memᴰ.not-nil d
   behind_never (stopped s r h) b n e t d a = b (asks_ahead (subst (λ (u : Step). Asks u n) (Memᴰ.eq_of_singleton d) a) e)
   behind_never (step_and s r h w) b n e t (Memᴰ.head q) a = b (asks_ahead (subst (λ (u : Step). Asks u n) q a) e)
   behind_never (step_and s r h w) b n e t (Memᴰ.tail d) a = behind_never w (λ u. b (ahead_before s k u)) n e t d a
 
   -- what is ahead at a step was ahead from the start
   ahead_from : {x : Session} {w : List Step} → Walk x w → (s : Step) → Memᴰ s w → T (ahead s.session k) → T (ahead x k)
-  ahead_from (at_end h) s d t = absurd (Memᴰ.not_nil d)
+  ahead_from (at_end h) s d t = absurd (Memᴰ.not-nil d)
   ahead_from (stopped u r h) s d t = subst (λ (u : Step). T (ahead u.session k)) (Memᴰ.eq_of_singleton d) t
   ahead_from (step_and u r h w) s (Memᴰ.head q) t = subst (λ (u : Step). T (ahead u.session k)) q t
   ahead_from (step_and u r h w) s (Memᴰ.tail d) t = ahead_before u k (ahead_from w s d t)
@@ -96,7 +96,7 @@ module _ (k : ℕ) where
 
   -- is not asked before it, there, or after it
   past_never : {x : Session} {w : List Step} → Walk x w → (s : Step) → Memᴰ s w → Past s → NoneAsked w k
-  past_never (at_end h) s d p n e t i a = Memᴰ.not_nil d
+  past_never (at_end h) s d p n e t i a = Memᴰ.not-nil d
   past_never (stopped u r h) s d p n e t i a =
       p.not_asked n (subst (λ (u : Step). Asks u n) (Memᴰ.eq_of_singleton i ∙ sym (Memᴰ.eq_of_singleton d)) a) e
   past_never (step_and u r h w) s (Memᴰ.head q) p n e t (Memᴰ.head i) a = p.not_asked n (subst (λ (u : Step). Asks u n) (i ∙ sym q) a) e
@@ -274,7 +274,7 @@ asked_behind {u} w t m n i a b e =
 
 pub asked_once : {x : Session} {w : List Step} → Walk x w → (s t : Step) (m n : Numbered) → Memᴰ s w → Memᴰ t w
     → Asks s m → Asks t n → priority m ≡ priority n → s ≡ t
-asked_once (at_end h) s t m n d i a b e = absurd (Memᴰ.not_nil d)
+asked_once (at_end h) s t m n d i a b e = absurd (Memᴰ.not-nil d)
 asked_once (stopped u r h) s t m n d i a b e = Memᴰ.eq_of_singleton d ∙ sym (Memᴰ.eq_of_singleton i)
 asked_once (step_and u r h w) s t m n (Memᴰ.head q) (Memᴰ.head p) a b e = q ∙ sym p
 asked_once (step_and u r h w) s t m n (Memᴰ.head q) (Memᴰ.tail i) a b e =

@@ -1,1 +1,3 @@
 // Theorems only: what the definitions of the crates below promise. proofs/Main is the page to open first.
+
+#![tactic(auto)]

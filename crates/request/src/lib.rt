@@ -1,5 +1,6 @@
 // The SIP request: readable or not, its start line and its fields. What stands in a field's value and in the body is read by `contents`.
 // The definitions stand in specs/.
+#![tactic(auto)]
 ghost use Rattle.std.specs.Prelude.{◌≡◌, [], ◌+◌, ◌-◌, ◌≤◌, ◌<◌, T, ltb, length, get_or};
 ghost use Rattle.octets.specs.Lists.{pick};
 ghost use Rattle.request.specs.Inner.Places.{head_of, Rooms, Read, Placed, Fielded, field_parts};
@@ -21,7 +22,7 @@ use crate::start_lines::{StartLine, start_line};
 // ---- the request
 
 // A request: where its head, its method and its URI end, and where the line of its first field starts.
-#[derive(Drop)]
+#[derive(Clone, Copy)]
 enum Judged {
     Refused,
     Accepted {
@@ -96,7 +97,7 @@ fn fill(h: &[u8], from: usize, starts: &mut [u16], colons: &mut [u16]) -> usize
 
 // Where the parts of a readable request stand: where its method, its URI and its head end, how many fields it has, and where its body
 // lines begin.
-#[derive(Drop)]
+#[derive(Clone, Copy)]
 pub struct Places {
     pub method: usize,
     pub uri: usize,
@@ -106,7 +107,7 @@ pub struct Places {
 }
 
 // What is read.
-#[derive(Drop)]
+#[derive(Clone, Copy)]
 pub enum Reading {
     Unreadable,
     Readable(Places),
@@ -154,7 +155,7 @@ fn field_end(starts: &[u16], head: usize, fields: usize, i: usize) -> usize
 }
 
 // A field: its name as written stands from name to stop, its raw value from value to end.
-#[derive(Drop)]
+#[derive(Clone, Copy)]
 pub struct FieldParts {
     pub name: usize,
     pub stop: usize,

@@ -7,7 +7,7 @@ ghost use Rattle.request.specs.Request.{start_line, parts_right};
 ghost use Rattle.request.specs.Inner.Steps.{word_byte, start_places};
 
 // A start line: where its method ends and where its URI ends.
-#[derive(Drop)]
+#[derive(Clone, Copy)]
 pub(crate) enum StartLine {
     Bad,
     Good { method: usize, uri: usize },

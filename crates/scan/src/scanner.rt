@@ -11,7 +11,7 @@ use crate::points::{first_of, letter, next_of, start_of};
 use octets::byte_at;
 
 // The word that stands in the text, or how many bytes go on where none does.
-#[derive(Drop)]
+#[derive(Clone, Copy)]
 pub enum Chosen {
     Word(usize),
     Missed(usize),
@@ -102,7 +102,7 @@ fn choose(s: &[u8], at: usize, q: usize) -> Chosen
 }
 
 // Where a comment or a `<?` ends: behind its end, or nowhere.
-#[derive(Drop)]
+#[derive(Clone, Copy)]
 pub enum Close {
     At(usize),
     Open,
@@ -139,7 +139,7 @@ fn end_of(s: &[u8], at: usize, comment: bool) -> Close
 }
 
 // What stands behind a point: another point, the end of a whole text, or a byte with which no text goes on.
-#[derive(Drop)]
+#[derive(Clone, Copy)]
 pub enum Turn {
     Next(usize, usize),
     Whole,
@@ -220,7 +220,7 @@ fn pass_point(s: &[u8], at: usize, q: usize) -> Turn
 }
 
 // Whether a text is one of the subset, or where it goes wrong.
-#[derive(Drop)]
+#[derive(Clone, Copy)]
 pub enum Scan {
     Whole,
     Wrong(usize),

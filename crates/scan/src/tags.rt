@@ -5,7 +5,7 @@ ghost use Rattle.scan.specs.Inner.Tags.{tag_of};
 use crate::points::{first_of, next_of, start_of};
 
 // How long it is, and the point behind it.
-#[derive(Drop)]
+#[derive(Clone, Copy)]
 pub struct Tag {
     pub width: usize,
     pub next: usize,

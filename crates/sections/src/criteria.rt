@@ -21,7 +21,7 @@ use tell::{Told, first_value, next_value};
 
 // What came of a criterion before its ServerName: its Priority, its ConditionTypeCNF, the number of its first row, and of the next row.
 // 4,294,967,297 stands for absent: all other numbers are told apart up to 4,294,967,296.
-#[derive(Drop)]
+#[derive(Clone, Copy)]
 pub struct Started {
     pub priority: u64,
     pub cnf: u64,
@@ -30,7 +30,7 @@ pub struct Started {
 }
 
 // A criterion's numbers, and how many of its bytes come before the first value that has no place in its field: 15 where each has one.
-#[derive(Drop)]
+#[derive(Clone, Copy)]
 pub struct LaidCriterion {
     pub criterion: Criterion,
     pub cut: usize,

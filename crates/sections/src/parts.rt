@@ -73,7 +73,7 @@ pub fn is_test(q: usize) -> bool
 }
 
 // The RegistrationTypes of a row: which of 0, 1, 2 are there, as a set, and whether another is.
-#[derive(Drop)]
+#[derive(Clone, Copy)]
 pub struct Types {
     pub set: usize,
     pub other: bool,

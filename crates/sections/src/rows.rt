@@ -21,7 +21,7 @@ use entries::Row;
 use tell::{Told, first_value, next_value};
 
 // A row's numbers, and how many of its bytes come before the first value that has no place in its field: 7 where each has one.
-#[derive(Drop)]
+#[derive(Clone, Copy)]
 pub struct Laid {
     pub row: Row,
     pub cut: usize,

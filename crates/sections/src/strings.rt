@@ -14,7 +14,7 @@ use encode::put_two;
 use tell::{Told, first_value, next_value};
 
 // The strings are held: how many, and what stands behind the last; how many rows and criteria the text has; or there are too many strings.
-#[derive(Drop)]
+#[derive(Clone, Copy)]
 pub struct Held {
     pub count: usize,
     pub end: usize,

@@ -1,11 +1,12 @@
 // The session: its record, which records a session can have, opening, and the report of what became of a forward.
+#![tactic(auto)]
 ghost use Rattle.std.specs.Prelude.{◌≡◌};
 ghost use Rattle.session.specs.Session.{possible, with_state, forwarded_to, goes as goes_in, stays as stays-with, Opens, Reports};
 
 // Five numbers: case 0..3; state 0 ready, 1 waiting, 2 finished, 3 released, 4 ended; forwarded 1 if anything was, else 0; the
 // last priority; that criterion's default handling.
 #[repr(C)]
-#[derive(Drop)]
+#[derive(Clone, Copy)]
 pub struct Session {
     pub case: u32,
     pub state: u32,
@@ -15,14 +16,14 @@ pub struct Session {
 }
 
 // The refusal number (0 if none), and the session.
-#[derive(Drop)]
+#[derive(Clone, Copy)]
 pub struct Opened {
     pub refusal: u32,
     pub session: Session,
 }
 
 // The refusal number (0 if none), and the session.
-#[derive(Drop)]
+#[derive(Clone, Copy)]
 pub struct Reported {
     pub refusal: u32,
     pub session: Session,

@@ -1,5 +1,6 @@
 // Which field, or line of the body, which value of it and which part of that a row's prepared patterns match first (document 02, change
 // request 2). The definitions stand in specs/.
+#![tactic(auto)]
 ghost use Rattle.std.specs.Prelude.{◌≡◌, true, false, ◌∷◌, [], ◌≤◌, length};
 ghost use Rattle.pattern.specs.Inner.Prepared.{Ready};
 ghost use Rattle.contents.specs.Body.{session_lines};
@@ -14,7 +15,7 @@ use machine::Shape;
 use request::Places;
 
 // Whether there is one, the value's number, the place of the part's first byte in that value, and how many bytes the part has.
-#[derive(Drop)]
+#[derive(Clone, Copy)]
 pub struct Spot {
     pub found: bool,
     pub value: usize,
@@ -23,7 +24,7 @@ pub struct Spot {
 }
 
 // The same, with the number of the field or line.
-#[derive(Drop)]
+#[derive(Clone, Copy)]
 pub struct Shown {
     pub found: bool,
     pub field: usize,

@@ -1,4 +1,5 @@
 // What operators' XML tells (change request 3): its values, one after the other, and what their bytes say.
+#![tactic(auto)]
 mod telling;
 mod values;
 

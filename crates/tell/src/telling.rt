@@ -8,7 +8,7 @@ use cuts::place_of;
 use scan::{Close, Turn, end_tag_of, gap_turn, top_of};
 
 // A value's bytes go up to `end`; behind its end tag the text goes on at another point.
-#[derive(Drop)]
+#[derive(Clone, Copy)]
 pub struct Value {
     pub end: usize,
     pub behind: usize,
@@ -31,7 +31,7 @@ fn pass_value(s: &[u8], at: usize, q: usize) -> Value
 
 // A value of a text: the point at which it is read (42: no value comes any more), its bytes from `start` to `end`, and where and at which
 // point the text goes on.
-#[derive(Drop)]
+#[derive(Clone, Copy)]
 pub struct Told {
     pub point: usize,
     pub start: usize,

@@ -46,7 +46,7 @@ pub fn value_of(t: &[u8]) -> u64
 }
 
 // A character of a string: the byte that it says, and how many bytes say it.
-#[derive(Drop)]
+#[derive(Clone, Copy)]
 pub struct Character {
     pub byte: u8,
     pub width: usize,

@@ -1,4 +1,5 @@
 // The fields of a request and the lines of its body against a row's prepared patterns. The definitions stand in specs/.
+#![tactic(auto)]
 ghost use Rattle.std.specs.Prelude.{◌≡◌, true, false, ◌∷◌, [], ◌≤◌, length};
 ghost use Rattle.pattern.specs.Inner.Prepared.{Ready};
 ghost use Rattle.contents.specs.Body.{session_lines};
@@ -12,7 +13,7 @@ use machine::Shape;
 use request::Places;
 
 // Whether a row fits, and the trials it took.
-#[derive(Drop)]
+#[derive(Clone, Copy)]
 pub struct Verdict {
     pub fits: bool,
     pub trials: u32,

@@ -1,6 +1,7 @@
 // Runs the kept cases of the second program through the proved functions, and holds every number and every list to the answer that
 // the second program gave. Writes a line for each case that differs, and how many there are. second/README.md has the formats of
 // data/cases and data/answers, and says how they are made.
+#![tactic(auto)]
 ghost use Rattle.std.specs.Prelude.{◌≡◌, ℕ, ◌<◌, true, length, slice_index};
 
 use libc::STDOUT_FILENO;
@@ -78,7 +79,7 @@ fn numbers(s: &[u8], at: usize, refusal: u32) -> [u32; 12] {
 }
 
 // Where the parts of a case stand.
-#[derive(Drop)]
+#[derive(Clone, Copy)]
 struct Case {
     call: u32,
     image: usize,
@@ -296,7 +297,7 @@ fn say_difference(k: u32, which: u32) {
 }
 
 // Where the next case and its answer begin, and how many differed so far.
-#[derive(Drop)]
+#[derive(Clone, Copy)]
 struct Standing {
     case: usize,
     answer: usize,
