@@ -1,0 +1,44 @@
+use Prim.Native.Nat.{◌-◌}
+use Rattle.request.proofs.Described.{looking_first, looking_past, looking_on, looking_end, second_one, next_room}
+use Rattle.request.proofs.OneField.{name_order, name_inside, value_order, value_inside, value_short, value_room}
+use borrow.Author.Rules.{rules}
+use Rattle.request.proofs.descriptions.is_described.Goals as goal
+
+pub loop-i-init : goal.loop-i-init
+loop-i-init c = search (rules, looking_first)
+
+pub overflow_add-i : goal.overflow_add-i
+overflow_add-i c = search (rules, next_room)
+
+pub slice_bounds-as_matched-count : goal.slice_bounds-as_matched-count
+slice_bounds-as_matched-count c = search (rules, name_order)
+
+pub slice_bounds-as_matched-start : goal.slice_bounds-as_matched-start
+slice_bounds-as_matched-start c = search (rules, name_order)
+
+pub slice_bounds-as_matched-end : goal.slice_bounds-as_matched-end
+slice_bounds-as_matched-end c = search (rules, name_inside)
+
+pub loop-i-preserved-then-not-same_letters : goal.loop-i-preserved-then-not-same_letters
+loop-i-preserved-then-not-same_letters c = (search looking_past, search rules, search rules)
+
+pub returns-then-seen : goal.returns-then-seen
+returns-then-seen c = search second_one
+
+pub slice_bounds-value_describes-count : goal.slice_bounds-value_describes-count
+slice_bounds-value_describes-count c = search (rules, value_order)
+
+pub slice_bounds-value_describes-start : goal.slice_bounds-value_describes-start
+slice_bounds-value_describes-start c = search (rules, value_order)
+
+pub slice_bounds-value_describes-end : goal.slice_bounds-value_describes-end
+slice_bounds-value_describes-end c = search (rules, value_inside)
+
+pub value_describes-describes-requires : goal.value_describes-describes-requires
+value_describes-describes-requires c = (search value_short, search (rules, value_room))
+
+pub loop-i-preserved : goal.loop-i-preserved
+loop-i-preserved c = (search looking_on, search rules, search rules)
+
+pub returns : goal.returns
+returns c = search looking_end

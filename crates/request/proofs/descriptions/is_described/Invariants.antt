@@ -1,0 +1,12 @@
+use mathlib.Core.Path.{◌≡◌}
+use Prim.Native.Nat.{◌-◌, ◌≤◌}
+use lib.ListN.{length}
+use Rattle.request.proofs.Described.{Looking}
+use Rattle.request.proofs.descriptions.is_described.Given as goal
+
+abbrev pub invariant-loop-i : goal.invariant-loop-i
+invariant-loop-i l =
+    Looking l.s l.fields l.i l.seen l.describes × (length l.room ≡ length l.initial.room) × (length l.s ≤ length l.room)
+
+abbrev pub decreases-loop-i : goal.decreases-loop-i
+decreases-loop-i l = l.fields - l.i

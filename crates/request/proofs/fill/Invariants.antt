@@ -1,0 +1,10 @@
+use Prim.Native.Nat.{◌+◌, ◌-◌}
+use lib.ListN.{length}
+use Rattle.request.proofs.Filling.{Filling}
+use Rattle.request.proofs.fill.Given as goal
+
+abbrev pub invariant-loop-p : goal.invariant-loop-p
+invariant-loop-p l = Filling l.h l.from l.initial.starts l.initial.colons l.starts l.colons l.p l.n
+
+abbrev pub decreases-loop-p : goal.decreases-loop-p
+decreases-loop-p l = length l.h + 2 - l.p
