@@ -271,6 +271,8 @@ module _ (p : Entries) (low : Countable p) where
 
     both_alike : (o o' : Out Entries) → Both o o' → Alike (judged_by x o) (judged_by y o')
     both_alike (bad m i) (bad m' j) (both e) = alike e
+    both_alike (good _) _ x3 = elim x3 [ ]
+    both_alike (bad m i) (good _) x5 = elim x5 [ ]
 
     -- two fronts that are both stuck get one number
     pub stuck_alike : Alike (verdict (profile x 0)) (verdict (profile y 0))
