@@ -1,0 +1,35 @@
+use borrow.Author.Rules.{rules}
+use mathlib.Core.Path.{◌∙◌}
+use Prim.Native.Nat.{◌-◌}
+use Rattle.probes.proofs.Counting.{counting_first, counting_end, counting_next, line_inside}
+use native.Mathlib.Omega.{arith}
+use Rattle.probes.proofs.blocks.count.Goals as goal
+
+pub loop-at-init : goal.loop-at-init
+loop-at-init c = (omega arith, λ fold p k. counting_first _ _)
+
+pub slice_bounds-test-end : goal.slice_bounds-test-end
+slice_bounds-test-end c = search (rules, line_inside)
+
+pub overflow_add-n : goal.overflow_add-n
+overflow_add-n c =
+    omega (arith, c.one_if.ensures.1, c.from_long-n.ensures, c.loop-at.invariant.0, c.loop-at-test.true)
+
+pub overflow_add-at : goal.overflow_add-at
+overflow_add-at c =
+    omega (arith, line_inside _ _ _ c.loop-at-test.true c.line_end-end.ensures)
+
+pub loop-at-smaller : goal.loop-at-smaller
+loop-at-smaller c = search (rules, line_inside)
+
+pub loop-at-preserved : goal.loop-at-preserved
+loop-at-preserved c =
+    let more = c.loop-at-test.true in
+    let end = c.line_end-end.ensures in
+    (
+      omega (arith, c.loop-at.invariant.0, c.from_long-n.ensures, c.one_if.ensures.1, end),
+      λ fold p k. counting_next _ _ _ _ more end _ (c.test-m.ensures fold p k) _ (c.from_long-n.ensures ∙ c.one_if.ensures.0) _ (c.loop-at.invariant.1 fold p k),
+    )
+
+pub returns : goal.returns
+returns c = λ fold p k. counting_end _ _ _ _ (c.loop-at.invariant.1 fold p k) c.loop-at-test.false
