@@ -1,9 +1,10 @@
 -- The two lists after some rounds of the walk: their lengths, one round more, and all of them.
 use mathlib.Core.Bool.{Bool, true, false, ◌&&◌}
 use mathlib.Core.List.{List, [], ◌∷◌, map}
-use mathlib.Core.Path.{◌≡◌, refl, ap, subst, subst⁻¹, ◌∙◌}
-use Prim.Native.Nat.{ℕ, zero, suc, ◌<◌}
+use mathlib.Core.Path.{◌≡◌, refl, sym, ap, ap₂, subst, subst⁻¹, ◌∙◌}
+use Prim.Native.Nat.{ℕ, zero, suc, ◌+◌, ◌<◌, ◌≤◌}
 use native.Mathlib.Nat.{le_of_suc-le-suc, not-suc-le-zero}
+use native.Mathlib.Numerals.{add-one}
 use native.Mathlib.Omega.{arith}
 use lib.Dec.{eqb, leb, eqb→eq}
 use lib.ListN.{length, get_or, set}
@@ -95,6 +96,21 @@ within_by a b c i true e h =
 pub within : (a b c i : ℕ) → i < pick (fits a b c) a 0 → (i < a) × ((i < b) × (i < c))
 within a b c i h = within_by a b c i (fits a b c) refl h
 
+-- a turn of the walk: the single report's answer is written at the place i of both lists
+pub turn : (xs : List Session) (ns before : List ℕ) (i : ℕ) → i < rounds_of xs ns before
+    → (ss : List Session) → ss ≡ sessions_after i xs ns → (rs : List ℕ) → rs ≡ refusals_after i xs ns before
+    → (d : Session) (a : Reported) → a ≡ report_session (get_or ss i d) (get_or ns i 0)
+    → (set ss i a.session ≡ sessions_after (i + 1) xs ns) × (set rs i a.refusal ≡ refusals_after (i + 1) xs ns before)
+turn xs ns before i h ss es rs er d a e =
+    let w = within (length xs) (length ns) (length before) i h in (
+      ap (λ (b : Reported). set ss i b.session) e
+      ∙ ap (λ (l : List Session). set l i (report_session (get_or l i d) (get_or ns i 0)).session) es
+      ∙ sessions_next i xs ns d w.0 w.1.0 ∙ ap (λ (k : ℕ). sessions_after k xs ns) (sym (add-one i)),
+      ap (λ (b : Reported). set rs i b.refusal) e
+      ∙ ap₂ (λ (l : List Session) (r : List ℕ). set r i (report_session (get_or l i d) (get_or ns i 0)).refusal) es er
+      ∙ refusals_next i xs ns before d w.0 w.1.0 w.1.1 ∙ ap (λ (k : ℕ). refusals_after k xs ns before) (sym (add-one i)),
+    )
+
 -- ---- all of them
 
 sessions_all : (xs : List Session) (ns : List ℕ) → length xs ≡ length ns
@@ -127,3 +143,17 @@ module _ (xs : List Session) (ns before : List ℕ) where
   answers r e =
       subst⁻¹ (λ (k : ℕ). ReportsTo xs ns before k (sessions_after (rounds_of xs ns before) xs ns) (refusals_after (rounds_of xs ns before) xs ns before)) e
       (answers_by (fits (length xs) (length ns) (length before)) refl)
+
+  -- where the walk ends, after i rounds, with lists as long as they were
+  pub ended : (i : ℕ) → i ≤ rounds_of xs ns before → rounds_of xs ns before ≤ i
+      → (ss : List Session) → ss ≡ sessions_after i xs ns → length ss ≡ length xs
+      → (rs : List ℕ) → rs ≡ refusals_after i xs ns before → length rs ≡ length before
+      → (r : ℕ) → r ≡ pick (fits (length ss) (length ns) (length rs)) 0 17 → ReportsTo xs ns before r ss rs
+  ended i low high ss es ls rs er lr r e =
+      let all : i ≡ rounds_of xs ns before = omega arith in
+      let a = answers r (e ∙ ap₂ (λ (n m : ℕ). pick (fits n (length ns) m) 0 17) ls lr) in
+      record {
+        number_is = a.number_is;
+        sessions_is = es ∙ ap (λ (k : ℕ). sessions_after k xs ns) all ∙ a.sessions_is;
+        refusals_is = er ∙ ap (λ (k : ℕ). refusals_after k xs ns before) all ∙ a.refusals_is;
+      }
