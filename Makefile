@@ -14,10 +14,11 @@ all: $(ARCHIVE)
 	cp $(ARCHIVE) $(DIST)/lib/
 	sed 's|@PREFIX@|$(PREFIX)|' include/ifc.pc.in >$(DIST)/lib/pkgconfig/ifc.pc
 
-# rt proves only what has changed, and may leave an archive as it is.
-$(ARCHIVE): crates.txt $(shell find crates -name "*.rt" -o -name "*.antt")
-	rt staticlib ifc
-	touch $@
+# rt proves only what has changed. The crate ifc_c is ifc as C links it.
+$(ARCHIVE): crates.txt $(shell find crates -name out -prune -o \( -name "*.rt" -o -name "*.antt" \) -print)
+	mkdir -p target/staticlib
+	cd crates/ifc_c && rt lib
+	cp crates/ifc_c/out/libifc_c.a $@
 
 install: all
 	mkdir -p $(DESTDIR)$(PREFIX)

@@ -1,5 +1,6 @@
-// The calls as C makes them: numbers and bytes in, numbers out. Nothing but passing on.
+// The calls as C makes them (crate ifc_c exports them): numbers and bytes in, numbers out. Nothing but passing on.
 #![tactic(auto)]
+
 ghost use Rattle.bulk.specs.Bulk.{ReportsTo};
 ghost use Rattle.ifc.specs.Exports.{session_of, CheckTo, OpenTo, ReportTo, AdvanceTo, ListTo, ServerTo, InformationTo, ShowTo, PlainTo};
 
@@ -13,8 +14,7 @@ use rows::Given;
 use session::{Session, open, report as report_on};
 use show::show;
 
-#[unsafe(no_mangle)]
-pub extern "C" fn ifc_check(image: &[u8], place: &mut u32) -> u32
+pub fn ifc_check(image: &[u8], place: &mut u32) -> u32
     ensures { CheckTo image.now result place.new }
 {
     let checked = check(image);
@@ -22,8 +22,7 @@ pub extern "C" fn ifc_check(image: &[u8], place: &mut u32) -> u32
     checked.refusal
 }
 
-#[unsafe(no_mangle)]
-pub extern "C" fn ifc_open(
+pub fn ifc_open(
     wanted: u32,
     case: &mut u32,
     state: &mut u32,
@@ -42,8 +41,7 @@ pub extern "C" fn ifc_open(
     opened.refusal
 }
 
-#[unsafe(no_mangle)]
-pub extern "C" fn ifc_advance(
+pub fn ifc_advance(
     image: &[u8],
     request: &[u8],
     case: u32,
@@ -81,8 +79,7 @@ pub extern "C" fn ifc_advance(
     a.refusal
 }
 
-#[unsafe(no_mangle)]
-pub extern "C" fn ifc_report(
+pub fn ifc_report(
     case: u32,
     state: &mut u32,
     forwarded: u32,
@@ -104,8 +101,7 @@ pub extern "C" fn ifc_report(
     reported.refusal
 }
 
-#[unsafe(no_mangle)]
-pub extern "C" fn ifc_list(
+pub fn ifc_list(
     image: &[u8],
     request: &[u8],
     case: u32,
@@ -127,8 +123,7 @@ pub extern "C" fn ifc_list(
     a.refusal
 }
 
-#[unsafe(no_mangle)]
-pub extern "C" fn ifc_server(
+pub fn ifc_server(
     image: &[u8],
     criterion: u32,
     place: &mut u32,
@@ -145,8 +140,7 @@ pub extern "C" fn ifc_server(
 }
 
 // Yes and no as C has them.
-#[unsafe(no_mangle)]
-pub extern "C" fn ifc_information(
+pub fn ifc_information(
     image: &[u8],
     criterion: u32,
     place: &mut u32,
@@ -164,8 +158,7 @@ pub extern "C" fn ifc_information(
     info.refusal
 }
 
-#[unsafe(no_mangle)]
-pub extern "C" fn ifc_show(
+pub fn ifc_show(
     image: &[u8],
     request: &[u8],
     row: u32,
@@ -188,8 +181,7 @@ pub extern "C" fn ifc_show(
     shown.refusal
 }
 
-#[unsafe(no_mangle)]
-pub extern "C" fn ifc_plain(
+pub fn ifc_plain(
     pattern: &[u8],
     text: &[u8],
     found: &mut u32,
@@ -205,13 +197,8 @@ pub extern "C" fn ifc_plain(
     matched.refusal
 }
 
-// The list is lent on as it came; its proof is by hand, since a slice of structs is lent.
-#[unsafe(no_mangle)]
-pub extern "C" fn ifc_reports(
-    sessions: &mut [Session],
-    reports: &[u32],
-    refusals: &mut [u32],
-) -> u32
+// The list is lent on as it came.
+pub fn ifc_reports(sessions: &mut [Session], reports: &[u32], refusals: &mut [u32]) -> u32
     ensures { ReportsTo sessions.old reports.now refusals.old result sessions.new refusals.new }
 {
     report_all(sessions, reports, refusals)

@@ -1,5 +1,6 @@
 // The session: its record, which records a session can have, opening, and the report of what became of a forward.
 #![tactic(auto)]
+
 ghost use Rattle.std.specs.Prelude.{◌≡◌};
 ghost use Rattle.session.specs.Session.{possible, with_state, forwarded_to, goes as goes_in, stays as stays-with, Opens, Reports};
 
