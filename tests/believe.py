@@ -12,7 +12,7 @@ import re
 import sys
 
 os.chdir(os.path.join(os.path.dirname(os.path.abspath(__file__)), ".."))
-USE = re.compile(r"^(?:ghost )?use Rattle·(\w+)(?:·\w+\.\w+|\.\w+)\.((?:Inner\.)?\w+)", re.M)
+USE = re.compile(r"^(?:ghost )?use Rattle\.(\w+)\.\w+\.((?:Inner\.)?\w+)", re.M)
 PAGES = ["crates/promises/proofs/Main.antt", "crates/promises/proofs/Details.antt"]
 wrong = []
 

@@ -1,6 +1,5 @@
 // The sections of an image, written from the values of operators' XML (change request 3).
 #![tactic(auto)]
-mod criteria;
 mod filling;
 mod parts;
 mod rows;
