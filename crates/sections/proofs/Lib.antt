@@ -1,4 +1,3 @@
-pub mod CriteriaLoop
 pub mod Fills
 pub mod Holding
 pub mod Next
@@ -6,7 +5,6 @@ pub mod Passes
 pub mod Picks
 pub mod Rowing
 pub mod RowsLoop
-pub mod Saying
 pub mod Stopping
 pub mod Telling
 pub mod Types

@@ -1,4 +1,3 @@
-pub mod Criteria
 pub mod Filling
 pub mod Rows
 pub mod Strings
