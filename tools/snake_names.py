@@ -39,7 +39,8 @@ def turned(name):
 
 
 def is_answer(path):
-    return os.path.basename(path) in ("Proof.antt", "Answers.antt", "Invariants.antt")
+    """What proves one function, in a folder below proofs/."""
+    return os.path.basename(path) in ("Proof.antt", "Answers.antt", "Invariants.antt") and re.match(r"crates/\w+/proofs/.+/", path) is not None
 
 
 def respell(text, change):

@@ -11,7 +11,6 @@ use lib.Dec.{eqb, ltb, leb}
 use lib.ListN.{get_or, set, replicate}
 use lib.Pow.{pow-lt}
 use borrow.Author.Tests.{eqb-true, eqb-false, eq-eqb, ne_eqb, lt-ltb, le-ltb, le-leb, lt-leb, leb-true, leb-false}
-use Rattle.octets.specs.Bits.{bit}
 use Rattle.octets.specs.Inner.Masks.{mask}
 use Rattle.octets.specs.Bytes.{within}
 use Rattle.octets.proofs.Bits.{bit_pow, bit_zero, bit_ones, mask_of, mask_or, mask_ext, mask_with, mask_not, ones_up, ones_down, shl_one}

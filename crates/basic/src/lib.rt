@@ -1,5 +1,6 @@
 // Basic regular expressions (document 01, "Patterns (source 001)"): a string is read as one, and whether it is one is told.
 #![tactic(auto)]
+
 ghost use Rattle.std.specs.Prelude.{◌≡◌};
 ghost use Rattle.basic.specs.Inner.Judged.{is_pattern};
 

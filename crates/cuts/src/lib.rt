@@ -1,5 +1,6 @@
 // Cutting and searching bytes: the place of a byte, and white space at both ends. The definitions stand in specs/.
 #![tactic(auto)]
+
 ghost use Rattle.std.specs.Prelude.{◌≡◌, ◌∷◌, [], ◌+◌, ◌≤◌, length, drop};
 ghost use Rattle.octets.specs.Bytes.{white};
 ghost use Rattle.cuts.specs.Cutting.{begins};

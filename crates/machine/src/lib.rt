@@ -1,5 +1,6 @@
 // The matcher: a machine of at most 60 positions, a bit for each. It knows no edition of patterns.
 #![tactic(auto)]
+
 ghost use Rattle.std.specs.Prelude.{◌≡◌, true, false, not, ◌||◌, [], ◌+◌, ◌<◌, ◌≤◌, eqb, get_or, length};
 ghost use Rattle.std.specs.Int.Bits.{bit_and};
 ghost use Rattle.octets.specs.Lists.{pick};

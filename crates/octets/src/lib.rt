@@ -1,5 +1,6 @@
 // Bytes: their classes, their case forms, and equal bytes; numbers in other widths.
 #![tactic(auto)]
+
 ghost use Rattle.std.specs.Prelude.{◌≡◌, get_or};
 ghost use Rattle.octets.specs.Bytes.{lower, same_any_case, token};
 ghost use Rattle.octets.specs.Inner.Tables.{class_of, Classes};

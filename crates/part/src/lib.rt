@@ -1,5 +1,6 @@
 // How long a part of a text is that a machine takes from a given start.
 #![tactic(auto)]
+
 ghost use Rattle.std.specs.Prelude.{◌≡◌, ◌<◌, ◌≤◌, eqb, length, drop, replicate};
 ghost use Rattle.octets.specs.Inner.Masks.{Below};
 ghost use Rattle.machine.specs.Inner.Machine.{Closed, machine_of};

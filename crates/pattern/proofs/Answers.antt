@@ -25,17 +25,17 @@ pub record Met (fold : Bool) (s t : List ℕ) : Type 0 where
   pub reads : read_pattern s ≡ some pattern
   pub matches : Matches (meet_as fold) pattern t
 
-as-iff : (fold : Bool) (p : Pattern) (t : List ℕ) → T (matches_as fold p t) ↔ Matches (meet_as fold) p t
-as-iff true p t = name_iff p t
-as-iff false p t = written_iff p t
+as_iff : (fold : Bool) (p : Pattern) (t : List ℕ) → T (matches_as fold p t) ↔ Matches (meet_as fold) p t
+as_iff true p t = name_iff p t
+as_iff false p t = written_iff p t
 
-pub meets-iff : (fold : Bool) (s t : List ℕ) → T (meets_text fold s t) ↔ Met fold s t
+pub meets_iff : (fold : Bool) (s t : List ℕ) → T (meets_text fold s t) ↔ Met fold s t
 unfolding meets_text
-meets-iff fold s t = (λ h. sound (read_pattern s) refl h, λ m. subst⁻¹ (λ (o : Option Pattern). T (read_matches fold o t)) m.reads ((as-iff fold m.pattern t).1 m.matches))
+meets_iff fold s t = (λ h. sound (read_pattern s) refl h, λ m. subst⁻¹ (λ (o : Option Pattern). T (read_matches fold o t)) m.reads ((as_iff fold m.pattern t).1 m.matches))
   where
     sound : (o : Option Pattern) → read_pattern s ≡ o → T (read_matches fold o t) → Met fold s t
     sound none e h = absurd h
-    sound (some p) e h = record { pattern = p; reads = e; matches = (as-iff fold p t).0 h }
+    sound (some p) e h = record { pattern = p; reads = e; matches = (as_iff fold p t).0 h }
 
 -- ---- where the first part begins
 
@@ -56,8 +56,8 @@ anchored' : (b c : Bool) → (T b → T c) → T (not b || c)
 anchored' true c f = f tt
 anchored' false c f = tt
 
-pub part-iff : (fold : Bool) (p : Pattern) (t : List ℕ) (j : ℕ) → T (fits_from fold p t j) ↔ PartAt fold p t j
-part-iff fold p t j = (sound, complete)
+pub part_iff : (fold : Bool) (p : Pattern) (t : List ℕ) (j : ℕ) → T (fits_from fold p t j) ↔ PartAt fold p t j
+part_iff fold p t j = (sound, complete)
   where
     here : Bool
     here = front (meet_as fold) p.at_end p.elems (drop j t)
@@ -81,18 +81,18 @@ part-iff fold p t j = (sound, complete)
         (front_complete (meet_as fold) p.at_end q.after q.end q.fits))
 
 module _ (fold : Bool) (s t : List ℕ) (p : Pattern) (reads : read_pattern s ≡ some p) where
-  begins-iff : (j : ℕ) → T (begins_at fold s t j) ↔ PartAt fold p t j
+  begins_iff : (j : ℕ) → T (begins_at fold s t j) ↔ PartAt fold p t j
   unfolding begins_at
-  begins-iff j = subst⁻¹ (λ (o : Option Pattern). T (begins_of fold o t j) ↔ PartAt fold p t j) reads (part-iff fold p t j)
+  begins_iff j = subst⁻¹ (λ (o : Option Pattern). T (begins_of fold o t j) ↔ PartAt fold p t j) reads (part_iff fold p t j)
 
   first_one : First (begins_at fold s t) (suc (length t)) 0 (first_fit fold s t)
   unfolding first_fit
   first_one = first_of_smallest (begins_at fold s t) (suc (length t)) 0
 
   -- a part begins there, if it lies within the text
-  pub first-begins : first_fit fold s t ≤ length t → PartAt fold p t (first_fit fold s t)
-  first-begins h = (begins-iff (first_fit fold s t)).0 (T_of (first_one.found (omega arith)))
+  pub first_begins : first_fit fold s t ≤ length t → PartAt fold p t (first_fit fold s t)
+  first_begins h = (begins_iff (first_fit fold s t)).0 (T_of (first_one.found (omega arith)))
 
   -- and none before it
-  pub first-least : (j : ℕ) → j < first_fit fold s t → PartAt fold p t j → ⊥
-  first-least j h q = not_T_of (first_one.before j (omega arith) h) ((begins-iff j).1 q)
+  pub first_least : (j : ℕ) → j < first_fit fold s t → PartAt fold p t j → ⊥
+  first_least j h q = not_T_of (first_one.before j (omega arith) h) ((begins_iff j).1 q)

@@ -1,5 +1,6 @@
 // Patterns on texts (document 01, "Patterns (source 001)"): a pattern is prepared once, and whether and where it matches a text is told.
 #![tactic(auto)]
+
 ghost use Rattle.std.specs.Prelude.{◌≡◌, Bool, List, ℕ};
 ghost use Rattle.machine.specs.Inner.Machine.{Closed};
 ghost use Rattle.pattern.specs.Inner.Answers.{meets_text, first_fit};

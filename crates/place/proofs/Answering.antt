@@ -1,9 +1,9 @@
 -- The start and the length that the scans find are those that the definition names.
-use mathlib.Core.Path.{◌≡◌, refl, sym, ap, ◌∙◌, subst}
+use mathlib.Core.Path.{◌≡◌, refl, sym, ap, ◌∙◌}
 use mathlib.Core.Bool.{Bool, true, false}
-use mathlib.Core.Option.{Option, none, some, some-injective}
+use mathlib.Core.Option.{Option, none, some}
 use mathlib.Core.List.{List}
-use Prim.Native.Nat.{ℕ, ◌+◌, ◌≤◌, ◌<◌}
+use Prim.Native.Nat.{ℕ, ◌≤◌, ◌<◌}
 use native.Mathlib.Omega.{arith}
 use lib.Dec.{eqb, ltb}
 use lib.ListN.{length, drop}
@@ -19,7 +19,6 @@ use Rattle.pattern.specs.Parts.{FitsAt}
 use Rattle.pattern.specs.Inner.Prepared.{Ready}
 use Rattle.place.specs.Place.{nowhere}
 use Rattle.place.specs.Inner.Texts.{place_read, place_text}
-use Rattle.place.specs.declared.Place.{Place}
 use Rattle.place.proofs.Placing.{place_complete, nowhere_complete}
 
 module _ (fold : Bool) (p : List ℕ) (h : Shape) (sets : List (List ℕ)) (before : List ℕ) (ready : Ready fold p h sets before)

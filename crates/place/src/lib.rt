@@ -1,5 +1,6 @@
 // Where a pattern matches a text: "the smallest start, and of those the longest length" (document 02, change request 2).
 #![tactic(auto)]
+
 ghost use Rattle.std.specs.Prelude.{◌≡◌, Bool, List, ℕ};
 ghost use Rattle.machine.specs.Inner.Machine.{Closed};
 ghost use Rattle.pattern.specs.Inner.Prepared.{Ready};

@@ -97,9 +97,9 @@ module _ (s starts colons : List ℕ) (j : Judged) (ej : j ≡ judged (head_of s
         let k : Filled (take e s) f starts colons starts' colons' n = subst (λ (h : List ℕ). Filled h f starts colons starts' colons' n) front_is filled in
         let ls = lines_from (take e s) f in
         let m_is : length a.request.method ≡ m = ap length a.method_is ∙ length-take-le m s (omega (arith, a.before_uri, a.uri_inside, a.body_inside)) in
-        let u-long : length a.request.uri ≡ u - (m + 1) = ap length a.uri_is ∙ length_part s (m + 1) u (omega (arith, a.before_uri)) (omega (arith, a.uri_inside, a.body_inside)) in
-        let u_is : length a.request.method + 1 + length a.request.uri ≡ u = omega (arith, m_is, u-long, a.before_uri) in
-        let h-is : length (head_of s) ≡ e = ap length a.head_is ∙ long in
+        let u_long : length a.request.uri ≡ u - (m + 1) = ap length a.uri_is ∙ length_part s (m + 1) u (omega (arith, a.before_uri)) (omega (arith, a.uri_inside, a.body_inside)) in
+        let u_is : length a.request.method + 1 + length a.request.uri ≡ u = omega (arith, m_is, u_long, a.before_uri) in
+        let h_is : length (head_of s) ≡ e = ap length a.head_is ∙ long in
         let lines_so : lines_start (head_of s) a.request ≡ lines =
         ap (lines_start (head_of s)) (some-injective a.request (request_of s) (sym a.read ∙ read_some)) ∙ sym lines_is
         in
@@ -108,7 +108,7 @@ module _ (s starts colons : List ℕ) (j : Judged) (ej : j ≡ judged (head_of s
         let start : fields_start (head_of s) ≡ f = ap fields_start a.head_is ∙ sym a.start_is in
         record {
           answer =
-              sym (ap (reading (head_of s)) a.read ∙ (λ i. Readable (record { method = m_is i; uri = u_is i; head = h-is i; fields = n_is i; lines = lines_so i })));
+              sym (ap (reading (head_of s)) a.read ∙ (λ i. Readable (record { method = m_is i; uri = u_is i; head = h_is i; fields = n_is i; lines = lines_so i })));
           starts_are =
               k.starts_are ∙ ap (λ (i : ℕ). line_starts f ls ++ drop i starts) (k.count ∙ sym (starts_length f ls))
               ∙ sym (ap (λ (o : Option Request). over (starts_of (head_of s) o) starts) a.read ∙ (λ i. over (line_starts (start i) (fields_are i)) starts));

@@ -17,18 +17,18 @@ module _ (x : Session) where
   case_high h = sym (ap (λ (b : Bool). b && by_forwarded x.forwarded x) (lt-leb x.case 3 h))
 
   module _ (h : x.case ≤ 3) where
-    case-low : by_forwarded x.forwarded x ≡ possible x
+    case_low : by_forwarded x.forwarded x ≡ possible x
     unfolding possible
-    case-low = sym (ap (λ (b : Bool). b && by_forwarded x.forwarded x) (le-leb x.case 3 h))
+    case_low = sym (ap (λ (b : Bool). b && by_forwarded x.forwarded x) (le-leb x.case 3 h))
 
     pub none_yet : x.forwarded ≡ 0 → nothing_yet x ≡ possible x
-    none_yet e = sym (ap (λ (b : Bool). pick b (nothing_yet x) (eqb x.forwarded 1 && some_yet x)) (eq-eqb x.forwarded 0 e)) ∙ case-low
+    none_yet e = sym (ap (λ (b : Bool). pick b (nothing_yet x) (eqb x.forwarded 1 && some_yet x)) (eq-eqb x.forwarded 0 e)) ∙ case_low
 
     pub one_yet : x.last < 4294967296 → (x.forwarded ≡ 0 → ⊥)
         → (eqb x.forwarded 1 && (leb x.handling 1 && leb x.state 4 && (not (eqb x.state 3) || eqb x.handling 1))) ≡ possible x
     one_yet l e =
         sym (ap (λ (b : Bool). eqb x.forwarded 1 && (b && leb x.handling 1 && leb x.state 4 && (not (eqb x.state 3) || eqb x.handling 1))) (lt-ltb x.last 4294967296 l))
-        ∙ sym (ap (λ (b : Bool). pick b (nothing_yet x) (eqb x.forwarded 1 && some_yet x)) (ne_eqb x.forwarded 0 e)) ∙ case-low
+        ∙ sym (ap (λ (b : Bool). pick b (nothing_yet x) (eqb x.forwarded 1 && some_yet x)) (ne_eqb x.forwarded 0 e)) ∙ case_low
 
 -- ---- opening
 
@@ -60,13 +60,13 @@ module _ (x : Session) (n : ℕ) (r : Bool) (e : r ≡ possible x) where
   no_such a f h = record { answer = f ∙ rw (sym e ∙ not-true r h) }
 
   module _ (h : not r ≡ false) where
-    is-possible : possible x ≡ true
-    is-possible = sym e ∙ not-false r h
+    is_possible : possible x ≡ true
+    is_possible = sym e ∙ not-false r h
 
     module _ (w : x.state ≡ 1) where
       waits : after_report n x ≡ report_session x n
       unfolding report_session
-      waits = rw (is-possible, eq-eqb x.state 1 w)
+      waits = rw (is_possible, eq-eqb x.state 1 w)
 
       pub returned : (a : Reported) → a ≡ goes x 0 → n ≡ 0 → Reports x n a
       returned a f e0 = record { answer = f ∙ sym (ap (λ (k : ℕ). after_report k x) e0) ∙ waits }

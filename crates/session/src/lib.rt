@@ -2,7 +2,7 @@
 #![tactic(auto)]
 
 ghost use Rattle.std.specs.Prelude.{◌≡◌};
-ghost use Rattle.session.specs.Session.{possible, with_state, forwarded_to, goes as goes_in, stays as stays-with, Opens, Reports};
+ghost use Rattle.session.specs.Session.{possible, with_state, forwarded_to, goes as goes_in, stays as stays_with, Opens, Reports};
 
 // Five numbers: case 0..3; state 0 ready, 1 waiting, 2 finished, 3 released, 4 ended; forwarded 1 if anything was, else 0; the
 // last priority; that criterion's default handling.
@@ -99,7 +99,7 @@ pub fn forwarded_to(x: Session, priority: u32, handling: u32) -> Session
 
 // A refusal leaves the session as it came.
 fn stays(x: Session, refusal: u32) -> Reported
-    ensures { result ≡ stays-with x refusal }
+    ensures { result ≡ stays_with x refusal }
 {
     Reported {
         refusal,

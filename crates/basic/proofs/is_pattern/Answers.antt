@@ -1,6 +1,6 @@
 use borrow.Author.Rules.{rules}
 use Rattle.basic.proofs.Elements.{count_empty, stop_inside, count_start, count_lost, count_more, count_full, count_done, behind_after, behind_at}
-use Prim.Native.Nat.{◌-◌, ◌≤◌}
+use Prim.Native.Nat.{◌≤◌}
 use native.Mathlib.Omega.{arith}
 use Rattle.basic.proofs.is_pattern.Goals as goal
 

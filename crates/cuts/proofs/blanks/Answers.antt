@@ -1,4 +1,4 @@
-use Prim.Native.Nat.{◌-◌, zero-le}
+use Prim.Native.Nat.{zero-le}
 use native.Mathlib.Nat.{zero-add}
 use Rattle.cuts.proofs.Search.{came_end}
 use Rattle.cuts.proofs.Trims.{blanks_found, blanks_next}

@@ -1,5 +1,4 @@
 use mathlib.Core.Path.{refl}
-use Prim.Native.Nat.{◌-◌}
 use borrow.Author.Rules.{rules}
 use Rattle.cuts.proofs.Search.{came_end, place_found, place_next}
 use Rattle.cuts.proofs.place_of.Goals as goal

@@ -1,5 +1,4 @@
 use Rattle.machine.proofs.Scan.{Scan}
-use Prim.Native.Nat.{◌-◌}
 use Rattle.machine.proofs.smallest.Given as goal
 
 abbrev pub invariant-loop-i : goal.invariant-loop-i

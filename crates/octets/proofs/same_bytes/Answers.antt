@@ -1,4 +1,3 @@
-use Prim.Native.Nat.{◌-◌}
 use Rattle.octets.proofs.Equal.{same_long, alike_first, alike_next, alike_no, alike_end}
 use Rattle.octets.proofs.same_bytes.Goals as goal
 

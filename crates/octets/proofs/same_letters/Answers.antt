@@ -1,4 +1,3 @@
-use Prim.Native.Nat.{◌-◌}
 use borrow.Author.Rules.{rules}
 use Rattle.octets.proofs.Equal.{cased_long, cased_first, cased_next, cased_no, cased_end}
 use Rattle.octets.proofs.same_letters.Goals as goal

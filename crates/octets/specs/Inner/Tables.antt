@@ -1,5 +1,5 @@
 -- The table of byte classes that the code holds.
-use Rattle.std.specs.Prelude.{◌≡◌, ℕ, ◌-◌, ◌<◌, List, leb, get_or}
+use Rattle.std.specs.Prelude.{◌≡◌, ℕ, ◌<◌, List, leb, get_or}
 use Rattle.octets.specs.Lists.{pick}
 use Rattle.octets.specs.Bytes.{token_byte, white, uri_byte}
 

@@ -1,5 +1,4 @@
 use Rattle.part.proofs.Forward.{forward_start, forward_below, forward_after, forward_hit, forward_miss, forward_stop, forward_all}
-use Prim.Native.Nat.{◌-◌}
 use native.Mathlib.Omega.{arith}
 use borrow.Author.Rules.{rules}
 use Rattle.part.proofs.longest.Goals as goal

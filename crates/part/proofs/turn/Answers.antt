@@ -1,5 +1,4 @@
 use Rattle.part.proofs.Turning.{turns_none, turns_next, turns_all, before_below}
-use Prim.Native.Nat.{◌-◌}
 use mathlib.Core.Path.{◌∙◌}
 use native.Mathlib.Omega.{arith}
 use borrow.Author.Rules.{rules}

@@ -41,8 +41,8 @@ rows_on s strs at₂ = do
   members_on s strs rows n₂ (at₂ + 2) at₃
 
 -- the profile that a layout finds in an image
-abbrev pub profile-at : List ℕ → List ℕ → Layout → Entries
-profile-at s table y = record {
+abbrev pub profile_at : List ℕ → List ℕ → Layout → Entries
+profile_at s table y = record {
   strings = texts s y.strings table;
   rows = spaced (row_numbers s) 7 y.rows y.row_count;
   members = spaced (member_numbers s) 4 y.members y.member_count;
@@ -50,7 +50,7 @@ profile-at s table y = record {
 }
 
 abbrev pub judged_out : Judged → List ℕ → List ℕ → Out Entries
-judged_out (Accepted y) s table = good (profile-at s table y)
+judged_out (Accepted y) s table = good (profile_at s table y)
 judged_out (Judged.Refused m p) s table = bad m p
 
 -- the judgement in the paper's words

@@ -1,6 +1,5 @@
 use borrow.Author.Rules.{rules}
 use Rattle.basic.proofs.Listing.{gather_none, gather_close, gather_refused, gather_more, gather_end}
-use Prim.Native.Nat.{◌-◌}
 use native.Mathlib.Omega.{arith}
 use Rattle.basic.proofs.reader.items_at.Goals as goal
 

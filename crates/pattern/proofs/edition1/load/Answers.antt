@@ -1,7 +1,6 @@
 use borrow.Author.Rules.{rules}
 use Rattle.basic.proofs.Elements.{stop_inside}
 use Rattle.pattern.proofs.Loading.{load_empty, load_start, load_end, load_lost, load_many, load_room, load_starred, load_once, load_less}
-use Prim.Native.Nat.{◌-◌}
 use native.Mathlib.Nat.{le_refl, le-add_right}
 use native.Mathlib.Omega.{arith}
 use Rattle.pattern.proofs.edition1.load.Goals as goal
