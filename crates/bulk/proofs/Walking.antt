@@ -104,11 +104,11 @@ pub turn : (xs : List Session) (ns before : List ℕ) (i : ℕ) → i < rounds_o
 turn xs ns before i h ss es rs er d a e =
     let w = within (length xs) (length ns) (length before) i h in (
       ap (λ (b : Reported). set ss i b.session) e
-      ∙ ap (λ (l : List Session). set l i (report_session (get_or l i d) (get_or ns i 0)).session) es
-      ∙ sessions_next i xs ns d w.0 w.1.0 ∙ ap (λ (k : ℕ). sessions_after k xs ns) (sym (add-one i)),
+          ∙ ap (λ (l : List Session). set l i (report_session (get_or l i d) (get_or ns i 0)).session) es
+          ∙ sessions_next i xs ns d w.0 w.1.0 ∙ ap (λ (k : ℕ). sessions_after k xs ns) (sym (add-one i)),
       ap (λ (b : Reported). set rs i b.refusal) e
-      ∙ ap₂ (λ (l : List Session) (r : List ℕ). set r i (report_session (get_or l i d) (get_or ns i 0)).refusal) es er
-      ∙ refusals_next i xs ns before d w.0 w.1.0 w.1.1 ∙ ap (λ (k : ℕ). refusals_after k xs ns before) (sym (add-one i)),
+          ∙ ap₂ (λ (l : List Session) (r : List ℕ). set r i (report_session (get_or l i d) (get_or ns i 0)).refusal) es er
+          ∙ refusals_next i xs ns before d w.0 w.1.0 w.1.1 ∙ ap (λ (k : ℕ). refusals_after k xs ns before) (sym (add-one i)),
     )
 
 -- ---- all of them

@@ -1,5 +1,6 @@
 // Reports in bulk: the single report for each session of a lent list.
 #![tactic(auto)]
+
 ghost use Rattle.std.specs.Prelude.{◌≡◌};
 ghost use Rattle.octets.specs.Lists.{pick};
 ghost use Rattle.bulk.specs.Bulk.{fits, ReportsTo};

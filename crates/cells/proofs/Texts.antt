@@ -19,7 +19,7 @@ use Rattle.cells.proofs.Many.{many_step, many_bad, many_end}
 
 pub record Head (s : List ℕ) (n : ℕ) (before table : List ℕ) (at k : ℕ) : Type 0 where
   pub count : k ≤ n
-  pub low : at ≤ 65535
+  pub low : at ≤ 32768
   pub long : length table ≡ 1024
   pub so_far : reading_strings s n 3 ≡ many (λ _. string s) (n - k) at (texts s k table)
   pub inside : Inside s k table
@@ -64,7 +64,7 @@ module _ (s : List ℕ) (n : ℕ) (before table : List ℕ) (at k : ℕ) (hd : H
   texts_more : k < 1024 → texts s (k + 1) (set table k at) ≡ texts s k table ++ (text_at s at ∷ [])
   texts_more h = rw (add-one k, take-suc-set table k at (omega arith), map-append)
 
-  pub head_more : (v : ℕ) → length s ≤ 65535 → n ≤ 1024 → k < n → sized s at ≡ good v → Head s n before (set table k at) (at + 2 + v) (k + 1)
+  pub head_more : (v : ℕ) → length s ≤ 32768 → n ≤ 1024 → k < n → sized s at ≡ good v → Head s n before (set table k at) (at + 2 + v) (k + 1)
   head_more v hl hn h e =
       let w = sized_inv s at v e in
       record {

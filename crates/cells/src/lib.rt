@@ -1,5 +1,6 @@
 // Reads the cells of a profile image: numbers of one, two and four bytes, and the strings that they name.
 #![tactic(auto)]
+
 mod fields;
 mod string_table;
 

@@ -30,7 +30,7 @@ fn sized_at(s: &[u8], at: usize) -> Field
 
 // Section 1 after its count: the offset of each string goes into the table.
 pub fn strings(s: &[u8], n: usize, table: &mut [u16; 1024]) -> Field
-    requires { (length s.now ≤ 65535) × (n ≤ 1024) × (length table.old ≡ 1024) }
+    requires { (length s.now ≤ 32768) × (n ≤ 1024) × (length table.old ≡ 1024) }
     ensures tabled { Tabled result s.now n table.new }
     ensures filled { Filled result s.now n table.old table.new }
 {

@@ -1,8 +1,11 @@
 pub mod Adding
+pub mod Characters
+pub mod Copying
+pub mod Counting
+pub mod Decoding
 pub mod Finding
 pub mod Inserting
 pub mod Promises
-pub mod Sizes
 pub mod Stores
-pub mod TextCosts
+pub mod ToCome
 pub mod Uses

@@ -1,2 +1,4 @@
 pub mod Groups
 pub mod Storing
+pub mod Telling
+pub mod Values

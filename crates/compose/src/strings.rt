@@ -1,13 +1,12 @@
 // The table of strings: equal strings once.
 ghost use Rattle.std.specs.Prelude.{◌≡◌, ◌+◌, ◌≤◌, ◌<◌, length};
-ghost use Rattle.compose.specs.Inner.Storing.{StoredAt, Strings, Fresh, Adds};
+ghost use Rattle.compose.specs.Inner.Storing.{StoredAt, Strings, Adds};
 ghost use Rattle.cells.specs.Inner.Places.{texts};
 ghost use Rattle.cells.specs.Inner.Answers.{Table};
-ghost use Rattle.tell.specs.Inner.Values.{decoded};
+ghost use Rattle.compose.specs.Inner.Values.{decoded};
 ghost use Rattle.compose.specs.Composing.{index_of};
 
-use encode::put_two;
-use tell::{put_text, same_text, text_length};
+use crate::values::{put_text, same_text, text_length};
 
 // The number of a string among the n that are stored in an image, or n where it is not among them. The string is given by the bytes
 // between its tags.
@@ -27,33 +26,30 @@ pub fn find_text(t: &[u8], image: &[u8], table: &[u16; 1024], n: usize) -> usize
 
 // Stores a string behind its length; what stands behind it.
 pub fn store_text(t: &[u8], image: &mut [u8], at: usize) -> usize
-    requires { (length image.old ≤ 65535) × (at + 2 + length (decoded t.now) ≤ length image.old) }
+    requires { (at + 2 + length (decoded t.now) ≤ length image.old) × (length (decoded t.now) < 65536) }
     ensures { (result ≡ at + 2 + length (decoded t.now)) × StoredAt (decoded t.now) at image.old image.new }
 {
     let n = text_length(t);
-    let to = put_two(image, at, n);
-    put_text(t, image, to)
+    image[at] = (n / 256 % 256) as u8;
+    image[at + 1] = (n % 256) as u8;
+    put_text(t, image, at + 2)
 }
 
-// A string that is among those stored; or one that was stored, with what stands behind it; or one for which the table has no place.
+// A string that is among those stored, or one that was stored, with what stands behind it.
 #[derive(Clone, Copy)]
 pub enum Added {
     Known,
     New(usize),
-    Full,
 }
 
 // "Equal strings are stored once": a string is stored behind the others, unless it is among them.
 pub fn add_text(t: &[u8], image: &mut [u8], table: &mut [u16; 1024], n: usize, at: usize) -> Added
-    requires { Strings image.old table.old n at × (length image.old ≤ 65535) × (Fresh (decoded t.now) image.old table.old n → at + 2 + length (decoded t.now) ≤ length image.old) }
+    requires { Strings image.old table.old n at × (n < 1024) × (at < 65536) × (at + 2 + length (decoded t.now) ≤ length image.old) × (length (decoded t.now) < 65536) }
     ensures { Adds (decoded t.now) image.old table.old n at image.new table.new result }
 {
     let k = find_text(t, image, table, n);
     if k < n {
         return Added::Known;
-    }
-    if n == 1024 {
-        return Added::Full;
     }
     let e = store_text(t, image, at);
     table[n] = at as u16;

@@ -1,6 +1,7 @@
 // What stands in a request's fields and body: the values of a field, reduced and cut at commas, and the lines of a body. The definitions
 // stand in specs/.
 #![tactic(auto)]
+
 mod body_lines;
 mod description;
 mod names;

@@ -1,5 +1,6 @@
 // Reads the rows, memberships and criteria of a profile image: section by section, and each by value at its place.
 #![tactic(auto)]
+
 ghost use Rattle.std.specs.Prelude.{◌≡◌, ◌+◌, ◌≤◌, length};
 ghost use Rattle.entries.specs.Inner.Places.{row_numbers, member_numbers, trigger_numbers, criterion_numbers};
 

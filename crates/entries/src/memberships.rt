@@ -55,7 +55,7 @@ fn member_at(s: &[u8], rows: usize, k: usize, row: usize, group: usize, at: usiz
 
 // Section 3 after its count: how many memberships each row has goes into `counts`.
 pub fn members(s: &[u8], rows: usize, n: usize, start: usize, counts: &mut [u16; 2048]) -> Field
-    requires { (start ≤ 80000) × (rows ≤ 2048) × (n ≤ 16384) × (counts.old ≡ replicate 2048 0) }
+    requires { (start ≤ 60000) × (rows ≤ 2048) × (n ≤ 16384) × (counts.old ≡ replicate 2048 0) }
     ensures { Counted result s.now rows n start counts.new }
 {
     let mut at = start;
@@ -81,7 +81,7 @@ pub fn members(s: &[u8], rows: usize, n: usize, start: usize, counts: &mut [u16;
 
 // After section 3: every row has 1 to 8 memberships.
 pub fn all_placed(counts: &[u16; 2048], rows: usize, start: usize) -> Field
-    requires { (rows ≤ 2048) × (start ≤ 80000) }
+    requires { (rows ≤ 2048) × (start ≤ 60000) }
     ensures { check_out result ≡ placed (λ k. get_or counts.now k 0) rows 0 start }
 {
     let mut at = start;

@@ -48,7 +48,7 @@ fn row_second(
 
 // A whole row at `at`: where it ends, or the refusal.
 fn row_at(s: &[u8], table: &[u16; 1024], uses: &[u8; 1024], n: usize, at: usize) -> Field
-    requires { (at ≤ 90000) × Known s.now n table.now uses.now }
+    requires { (at ≤ 65520) × Known s.now n table.now uses.now }
     ensures { field_out result ≡ ends (reading_row s.now (texts s.now n table.now) at) }
 {
     let negated = up_to(s, at, 1);
@@ -83,7 +83,7 @@ pub fn rows(
     count: usize,
     start: usize,
 ) -> Field
-    requires { (start ≤ 65540) × (count ≤ 2048) × Known s.now n table.now uses.now }
+    requires { (start ≤ 40000) × (count ≤ 2048) × Known s.now n table.now uses.now }
     ensures { field_out result ≡ ends (reading_rows s.now (texts s.now n table.now) count start) }
 {
     let mut at = start;

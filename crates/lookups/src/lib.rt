@@ -1,5 +1,6 @@
 // The check of an image, and the lookups of a criterion's server and service information. The definitions stand in specs/.
 #![tactic(auto)]
+
 ghost use Rattle.std.specs.Prelude.{◌≡◌, ◌+◌, ◌≤◌, length};
 ghost use Rattle.std.proofs.Math.Option.{some};
 ghost use Rattle.octets.specs.Lists.{pick};

@@ -5,6 +5,7 @@
 // past its end, and `to_long(n)` is n in four bytes. Behind `is_pattern` no fault is looked for.
 // The bytes are 36 `$`, 42 `*`, 45 `-`, 46 `.`, 91 `[`, 92 `\`, 93 `]`, 94 `^`.
 #![tactic(auto)]
+
 ghost use Rattle.std.specs.Prelude.{◌≡◌, not, ◌&&◌, ◌||◌, ◌+◌, ◌≤◌, ◌<◌, ltb, length, drop};
 ghost use Rattle.octets.specs.Lists.{pick};
 ghost use Rattle.basic.specs.Reading.{range_opens};

@@ -4,8 +4,8 @@ use native.Mathlib.Omega.{arith}
 use mathlib.Core.Path.{◌≡◌, refl, sym, ap, ap₂, ◌∙◌, subst}
 use mathlib.Core.List.{List, ◌++◌}
 use lib.ListN.{length, get_or, drop}
-use lib.Dec.{eqb}
-use borrow.Author.Tests.{eq-eqb, ne_eqb}
+use lib.Dec.{leb, eqb}
+use borrow.Author.Tests.{eq-eqb, ne_eqb, le-leb, lt-leb, leb-true}
 use Rattle.cells.specs.Inner.Out.{Out, good, bad, ◌>>=◌, ◌>>◌, must}
 use Rattle.profile.specs.Written.{Entries}
 use Rattle.profile.specs.Inner.Places.{judge_by_places}
@@ -15,10 +15,8 @@ use Rattle.entries.specs.declared.Row.{Row}
 use Rattle.entries.specs.declared.Member.{Member}
 use Rattle.cells.specs.Inner.Answers.{Table, field_out, Tabled, Filled}
 use Rattle.entries.specs.Inner.Answers.{check_out, Counted}
-use Rattle.profile.specs.Image as image
-use Rattle.profile.specs.Judging.{profile, verdict}
-use Rattle.profile.specs.Inner.Answers.{opening, criteria_on, members_on, rows_on, judged_out, told, LaidAs, Laid}
-use Rattle.profile.specs.Inner.Decoded.{layout, judged_by, laid_criteria, laid_members, laid_rows}
+use Rattle.profile.specs.Inner.Answers.{opening, criteria_on, members_on, rows_on, judged_out, LaidAs, Laid}
+use Rattle.profile.specs.Inner.Decoded.{layout, laid_criteria, laid_members, laid_rows}
 use Rattle.profile.specs.declared.Layout.{Layout}
 use Rattle.cells.specs.declared.Field.{Field}
 use Rattle.cells.specs.declared.Field.TheVariants.{Is, Refused}
@@ -26,29 +24,33 @@ use Rattle.profile.specs.declared.Judged.{Judged}
 use Rattle.cells.proofs.Laws.{is, refused, must_inv, bind_inv, counted_inv}
 use Rattle.cells.proofs.Many.{ends_bad}
 use Rattle.entries.proofs.Decode.{rows_are, members_are, criteria_are}
-use Rattle.profile.proofs.Same.{verdict_same}
 
 module _ (s : List ℕ) where
-  module _ (f : Field) (e : field_out f ≡ u8 s 0) where
+  pub opening_long : 32768 < length s → bad 1 0 ≡ opening s
+  unfolding opening
+  opening_long h = rw (lt-leb (length s) 32768 h)
+
+  module _ (h : length s ≤ 32768) (f : Field) (e : field_out f ≡ u8 s 0) where
     pub opening_cut : (m q : ℕ) → f ≡ Refused m q → field_out f ≡ opening s
     unfolding opening
-    opening_cut m q g = ap field_out g ∙ rw (refused e g)
+    opening_cut m q g = ap field_out g ∙ rw (le-leb (length s) 32768 h, refused e g)
 
     module _ (v : ℕ) (g : f ≡ Is v) where
       pub opening_edition : (v ≡ 1 → ⊥) → bad 4 0 ≡ opening s
       unfolding opening
-      opening_edition n = rw (is e g, ne_eqb v 1 n)
+      opening_edition n = rw (le-leb (length s) 32768 h, is e g, ne_eqb v 1 n)
 
       pub opening_yes : v ≡ 1 → (o : Out ℕ) → o ≡ counted s 1 1024 → o ≡ opening s
       unfolding opening
-      opening_yes q o eo = rw (is e g, eq-eqb v 1 q) eo
+      opening_yes q o eo = rw (le-leb (length s) 32768 h, is e g, eq-eqb v 1 q) eo
 
-pub opening_inv : (s : List ℕ) (n : ℕ) → opening s ≡ good n → (n ≡ word s 1) × (n ≤ 1024) × (3 ≤ length s)
+pub opening_inv : (s : List ℕ) (n : ℕ) → opening s ≡ good n → (length s ≤ 32768) × (n ≤ 1024)
 unfolding opening
 opening_inv s n e =
-    let (v, q, r) = bind_inv (u8 s 0) _ n e in
+    let h = must_inv (leb (length s) 32768) 1 0 _ n e in
+    let (v, q, r) = bind_inv (u8 s 0) _ n h.1 in
     let k = must_inv (eqb v 1) 4 0 _ n r in
-    counted_inv s 1 1024 n k.1
+    (leb-true (length s) 32768 h.0, (counted_inv s 1 1024 n k.1).1)
 
 module _ (s : List ℕ) (strs : List (List ℕ)) (rows : List Row) (members : List Member) (n₂ at : ℕ) where
   abbrev Here : Out Entries → Type 0
@@ -148,41 +150,34 @@ strings_on s n = reading_strings s n 3 >>= λ q. rows_on s q.0 q.1
 
 pub judge_opens : (s : List ℕ) → judge_by_places s ≡ (opening s >>= strings_on s)
 unfolding judge_by_places opening rows_on members_on criteria_on
-judge_opens s =
-    sym (bind_assoc (u8 s 0) (λ v. must (eqb v 1) 4 0 >> counted s 1 1024) (strings_on s)
-    ∙ inner (u8 s 0) (λ v. must (eqb v 1) 4 0) (counted s 1 1024) (strings_on s))
-
-told_out : (s table : List ℕ) (r : Judged) → told r s ≡ judged_by s (judged_out r s table)
-told_out s table (Judged.Accepted y) = refl
-told_out s table (Judged.Refused m p) = refl
+judge_opens s = sym (then_assoc (must (leb (length s) 32768) 1 0) (u8 s 0 >>= λ v. must (eqb v 1) 4 0 >> counted s 1 1024) (strings_on s)
+    ∙ ap (λ (r : Out Entries). must (leb (length s) 32768) 1 0 >> r)
+    (bind_assoc (u8 s 0) (λ v. must (eqb v 1) 4 0 >> counted s 1 1024) (strings_on s) ∙ inner (u8 s 0) (λ v. must (eqb v 1) 4 0) (counted s 1 1024) (strings_on s)))
 
 module _ (s : List ℕ) (f : Field) (e : field_out f ≡ opening s) where
-  pub image_f : (m q : ℕ) → f ≡ Refused m q → image.refused m q ≡ verdict (profile s 0)
-  image_f m q g =
-      let b : judge_by_places s ≡ bad m q = judge_opens s ∙ rw (refused e g) in
-      sym (verdict_same s ∙ ap (judged_by s) b)
+  pub image_f : (m q : ℕ) → f ≡ Refused m q → bad m q ≡ judge_by_places s
+  image_f m q g = sym (judge_opens s ∙ rw (refused e g))
 
   module _ (n : ℕ) (g : f ≡ Is n) (f₂ : Field) (table : List ℕ) (e₂ : Tabled f₂ s n table) where
     whole_is : judge_by_places s ≡ strings_on s n
     whole_is = judge_opens s ∙ rw (is e g)
 
-    pub image_g : (m q : ℕ) → f₂ ≡ Refused m q → image.refused m q ≡ verdict (profile s 0)
+    pub image_g : (m q : ℕ) → f₂ ≡ Refused m q → bad m q ≡ judge_by_places s
     image_g m q g₂ =
         let b : reading_strings s n 3 ≡ bad m q = subst (λ (x : Field). Tabled x s n table) g₂ e₂ in
-        let w : judge_by_places s ≡ bad m q = whole_is ∙ rw b in
-        sym (verdict_same s ∙ ap (judged_by s) w)
+        sym (whole_is ∙ rw b)
 
     module _ (at : ℕ) (g₂ : f₂ ≡ Is at) where
       image_table : Tabled (Is at) s n table
       image_table = subst (λ (x : Field). Tabled x s n table) g₂ e₂
 
-      pub image_h : (r : Judged) → judged_out r s table ≡ rows_on s (texts s n table) at → told r s ≡ verdict (profile s 0)
-      image_h r er = told_out s table r ∙ ap (judged_by s) (er ∙ sym (whole_is ∙ rw image_table.0)) ∙ sym (verdict_same s)
+      pub image_h : (r : Judged) → judged_out r s table ≡ rows_on s (texts s n table) at → judged_out r s table ≡ judge_by_places s
+      image_h r er = er ∙ sym (whole_is ∙ rw image_table.0)
 
 pub counted_next : (s : List ℕ) (n k at : ℕ) (counts : List ℕ) (f : Field) (next : ℕ) → Counted f s n k at counts → f ≡ Is next → next ≡ at + 4 * k
 counted_next s n k at counts f next e g = (subst (λ (x : Field). Counted x s n k at counts) g e).3
 
-pub tabled_is : (s : List ℕ) (n : ℕ) (table : List ℕ) (f : Field) (at : ℕ) → n ≤ 1024 → Tabled f s n table → f ≡ Is at → (at ≤ 65535) × Table s n table
+pub tabled_is : (s : List ℕ) (n : ℕ) (table : List ℕ) (f : Field) (at : ℕ) → n ≤ 1024 → Tabled f s n table → f ≡ Is at → (at ≤ 32768) × Table s n table
 tabled_is s n table f at h e g =
     let t : Tabled (Is at) s n table = subst (λ (x : Field). Tabled x s n table) g e in
     (t.2, record { count = h; long = t.3; inside = t.1 })
@@ -227,3 +222,11 @@ laid_whole s before table (Judged.Refused m q) n at h e f = tt
 
 pub filled_is : (s : List ℕ) (n : ℕ) (before table : List ℕ) (f : Field) (at : ℕ) → Filled f s n before table → f ≡ Is at → (table ≡ offsets s n 3 ++ drop n before) × (at ≡ past s n 3)
 filled_is s n before table f at h g = subst (λ (x : Field). Filled x s n before table) g h
+
+pub opening_count : (s : List ℕ) (n : ℕ) → opening s ≡ good n → n ≡ word s 1
+unfolding opening
+opening_count s n e =
+    let h = must_inv (leb (length s) 32768) 1 0 _ n e in
+    let (v, q, r) = bind_inv (u8 s 0) _ n h.1 in
+    let k = must_inv (eqb v 1) 4 0 _ n r in
+    (counted_inv s 1 1024 n k.1).0

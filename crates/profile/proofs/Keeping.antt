@@ -1,26 +1,27 @@
--- From the judgement of an image to what is kept of it.
-use mathlib.Core.Path.{◌≡◌, refl, sym, ap, ap₂, ◌∙◌, subst}
-use Prim.Native.Nat.{ℕ, ◌≤◌, ◌<◌}
+-- From the judgement by places to what is kept of an image, and to what it holds.
+use mathlib.Core.Path.{◌≡◌, sym, ap, ap₂, ◌∙◌, subst}
+use Prim.Native.Nat.{ℕ, ◌≤◌}
 use mathlib.Core.List.{List, []}
-use lib.ListN.{length, replicate}
+use lib.ListN.{replicate}
 use Rattle.profile.specs.Image.{accepted, refused}
 use Rattle.profile.specs.Judging as judging
-use Rattle.profile.specs.Judging.{profile, verdict}
-use Rattle.profile.specs.Inner.Decoded.{layout, profile_in}
-use Rattle.profile.specs.Inner.Answers.{told, Laid}
+use Rattle.profile.specs.Inner.Places as places
+use Rattle.profile.specs.Inner.Decoded.{layout, profile_in, judged_by}
+use Rattle.profile.specs.Inner.Answers.{judged_out, Laid}
 use Rattle.profile.specs.Inner.Kept.{kept, judgement, string_table, Judges}
 use Rattle.profile.specs.declared.Layout.{Layout}
 use Rattle.profile.specs.declared.Judged.{Judged}
 use Rattle.profile.specs.declared.Judged.TheVariants.{Accepted, Refused}
 use Rattle.profile.specs.declared.Judgement.{Judgement}
-use Rattle.profile.proofs.Placed.{placed_low, judge_short, long_one}
+use Rattle.profile.proofs.Same.{judge_same}
+use Rattle.profile.proofs.Placed.{placed_low}
 
-module _ (s : List ℕ) (short : length s ≤ 32768) (r : Judged) (e : told r s ≡ verdict (profile s 0)) where
+module _ (s table : List ℕ) (r : Judged) (e : judged_out r s table ≡ places.judge_by_places s) where
   is_refused : (m p : ℕ) → r ≡ Refused m p → judging.judge s ≡ refused m p
-  is_refused m p g = judge_short s (profile s 0) short refl ∙ sym e ∙ ap (λ (x : Judged). told x s) g
+  is_refused m p g = judge_same s ∙ ap (judged_by s) (sym e ∙ ap (λ (x : Judged). judged_out x s table) g)
 
   is_accepted : (y : Layout) → r ≡ Accepted y → judging.judge s ≡ accepted (profile_in s)
-  is_accepted y g = judge_short s (profile s 0) short refl ∙ sym e ∙ ap (λ (x : Judged). told x s) g
+  is_accepted y g = judge_same s ∙ ap (judged_by s) (sym e ∙ ap (λ (x : Judged). judged_out x s table) g)
 
   pub place_low : (m p : ℕ) → r ≡ Refused m p → p ≤ 32768
   place_low m p g = (placed_low s m p (is_refused m p g)).0
@@ -29,12 +30,8 @@ module _ (s : List ℕ) (short : length s ≤ 32768) (r : Judged) (e : told r s 
   unfolding judgement
   judged_no m p a g f = record { answer = f ∙ sym (ap (kept s) (is_refused m p g)) }
 
-  pub judged_yes : (table : List ℕ) (y : Layout) → r ≡ Accepted y → Laid r s (replicate 1024 0) table → Judges s (record { refusal = 0; place = 0; layout = y; table = table })
+  pub judged_yes : (y : Layout) → r ≡ Accepted y → Laid r s (replicate 1024 0) table → Judges s (record { refusal = 0; place = 0; layout = y; table = table })
   unfolding judgement
-  judged_yes table y g l =
+  judged_yes y g l =
       let w : (y ≡ layout s) × (table ≡ string_table s) = subst (λ (x : Judged). Laid x s (replicate 1024 0) table) g l in
       record { answer = ap₂ (λ (z : Layout) (t : List ℕ). record { refusal = 0; place = 0; layout = z; table = t }) w.0 w.1 ∙ sym (ap (kept s) (is_accepted y g)) }
-
-pub judged_long : (s : List ℕ) (a : Judgement) → 32768 < length s → a ≡ kept [] (refused 1 0) → Judges s a
-unfolding judgement
-judged_long s a h f = record { answer = f ∙ sym (ap (kept s) (long_one s h)) }

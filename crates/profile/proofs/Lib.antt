@@ -1,7 +1,5 @@
 pub mod Accepted
-pub mod Blocked
 pub mod Found
-pub mod Fronts
 pub mod Gives
 pub mod ImageLaws
 pub mod Keeping
@@ -9,19 +7,13 @@ pub mod Lockstep
 pub mod Matching
 pub mod Opened
 pub mod Placed
-pub mod ReadAgain
-pub mod RightEntries
-pub mod RightFields
-pub mod RightSections
 pub mod Same
 pub mod SameEntries
 pub mod SameFields
 pub mod SameSections
 pub mod Sections
 pub mod Standings
-pub mod TooMany
 pub mod Writing
 pub mod WrittenEntries
 pub mod WrittenFields
-pub mod WrittenPlaces
 pub mod WrittenSections

@@ -55,7 +55,7 @@ kind_6 (repeated x) e = x
 
 -- ---- the first p bytes
 
-pub front_byte : (p i : ℕ) (s : List ℕ) → i < p → get_or (take p s) i 0 ≡ get_or s i 0
+front_byte : (p i : ℕ) (s : List ℕ) → i < p → get_or (take p s) i 0 ≡ get_or s i 0
 front_byte zero i s h = absurd (omega arith)
 front_byte (suc p) i [] h = refl
 front_byte (suc p) zero (b ∷ s) h = refl
@@ -66,7 +66,7 @@ front_number p zero i acc s h = refl
 front_number p (suc n) i acc s h =
     ap (λ (b : ℕ). number n (take p s) (i + 1) (acc * 256 + b)) (front_byte p i s (omega arith)) ∙ front_number p n (i + 1) (acc * 256 + get_or s i 0) s (omega arith)
 
-pub front_part : (p n i : ℕ) (s : List ℕ) → i + n ≤ p → take n (drop i (take p s)) ≡ take n (drop i s)
+front_part : (p n i : ℕ) (s : List ℕ) → i + n ≤ p → take n (drop i (take p s)) ≡ take n (drop i s)
 front_part p n zero s h = take-take n p s (omega arith)
 front_part zero zero (suc i) s h = refl
 front_part zero (suc n) (suc i) s h = absurd (omega arith)

@@ -22,10 +22,10 @@ use Rattle.profile.specs.Inner.Kept.{kept, judgement, string_table, Judges}
 use Rattle.profile.specs.declared.Layout.{Layout}
 use Rattle.profile.specs.declared.Judgement.{Judgement}
 use Rattle.profile.proofs.Same.{Laid, laid, accepted_good}
-use Rattle.profile.proofs.Placed.{placed_low, accepted_short}
+use Rattle.profile.proofs.Placed.{placed_low}
 use Rattle.cells.proofs.Laws.{bind_inv, good_inj}
 use Rattle.cells.proofs.Texts.{sized_inv}
-use Rattle.profile.proofs.ImageLaws.{judge_opens, strings_on, opening_inv}
+use Rattle.profile.proofs.ImageLaws.{judge_opens, strings_on, opening_inv, opening_count}
 
 -- ---- the k-th of a section
 
@@ -88,14 +88,14 @@ opened s j h z = go (judge s) refl h.answer
           accepts = e ∙ ap accepted k;
           layout_is = ap (λ (x : Judgement). x.layout) f;
           table_is = ap (λ (x : Judgement). x.table) f;
-          size = (accepted_short s p e).0;
+          size = l.size;
           end = l.end;
         }
     go (refused n place) e f = absurd (refused_not n s e (sym (ap (λ (x : Judgement). x.refusal) f) ∙ z))
 
 -- ---- the strings
 
-pub string_end : (s : List ℕ) (at : ℕ) (a : List ℕ) (next : ℕ) → cells.string s at ≡ good (a, next) → (next ≡ at + 2 + word s at) × (at + 2 + word s at ≤ length s)
+string_end : (s : List ℕ) (at : ℕ) (a : List ℕ) (next : ℕ) → cells.string s at ≡ good (a, next) → (next ≡ at + 2 + word s at) × (at + 2 + word s at ≤ length s)
 unfolding cells.string
 string_end s at a next e =
     let (v, q, r) = bind_inv (cells.sized s at) _ (a, next) e in
@@ -126,7 +126,7 @@ strings_read : (s : List ℕ) (p : Entries) → places.judge_by_places s ≡ goo
 strings_read s p e =
     let (n, o, r) = bind_inv (opening s) (strings_on s) p (sym (judge_opens s) ∙ e) in
     let (q, f, g) = bind_inv (reading_strings s n 3) _ p r in
-    let z : n ≡ word s 1 = (opening_inv s n o).0 in
+    let z : n ≡ word s 1 = opening_count s n o in
     (subst (λ (m : ℕ). m ≤ 1024) z (opening_inv s n o).1, q, subst (λ (m : ℕ). reading_strings s m 3 ≡ good q) z f)
 
 module _ (s : List ℕ) (j : Judgement) (h : Judges s j) (z : j.refusal ≡ 0) where

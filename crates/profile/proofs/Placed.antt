@@ -84,7 +84,7 @@ module _ (s : List ℕ) (n place : ℕ) (e : judge s ≡ refused n place) where
 abbrev AcceptedBefore : List ℕ → ℕ → Type 0
 AcceptedBefore s p = (p < length s) × (length s ≤ 32768) × ((q : Profile) × (judge (take p s) ≡ accepted q))
 
-pub judge_short : (l : List ℕ) (x : Got Profile) → length l ≤ 32768 → profile l 0 ≡ x → judge l ≡ verdict x
+judge_short : (l : List ℕ) (x : Got Profile) → length l ≤ 32768 → profile l 0 ≡ x → judge l ≡ verdict x
 unfolding judge
 judge_short l x h e = go (leb (length l) 32768) refl
   where
@@ -92,22 +92,14 @@ judge_short l x h e = go (leb (length l) 32768) refl
     go true f = ap verdict e
     go false f = absurd (omega (arith, h, nleb→lt (length l) 32768 (subst (λ (c : Bool). T (not c)) (sym f) tt)))
 
--- what is accepted is within the limit
-pub accepted_short : (l : List ℕ) (q : Profile) → judge l ≡ accepted q → (length l ≤ 32768) × (verdict (profile l 0) ≡ accepted q)
-unfolding judge
-accepted_short l q e = go (leb (length l) 32768) refl e
-  where
-    go : (b : Bool) → leb (length l) 32768 ≡ b → pick b (verdict (profile l 0)) (refused 1 0) ≡ accepted q
-        → (length l ≤ 32768) × (verdict (profile l 0) ≡ accepted q)
-    go true h f = (leb→le (length l) 32768 (T_of h), f)
-    go false h f = let z : ◌≡◌ {A = ℕ} 0 1 = cc in absurd (omega arith)
-
 judge_got : (l : List ℕ) (q : Profile) → judge l ≡ accepted q → IsGot (profile l 0)
-judge_got l q e = go (profile l 0) (accepted_short l q e).1
+unfolding judge
+judge_got l q e = go (leb (length l) 32768) (profile l 0) e
   where
-    go : (x : Got Profile) → verdict x ≡ accepted q → IsGot x
-    go (got a k) f = tt
-    go (fault n place) f = let z : ◌≡◌ {A = ℕ} 0 1 = cc in absurd (omega arith)
+    go : (b : Bool) (x : Got Profile) → pick b (verdict x) (refused 1 0) ≡ accepted q → IsGot x
+    go true (got a k) f = tt
+    go true (fault n place) f = let z : ◌≡◌ {A = ℕ} 0 1 = cc in absurd (omega arith)
+    go false x f = let z : ◌≡◌ {A = ℕ} 0 1 = cc in absurd (omega arith)
 
 module _ (s : List ℕ) (p : ℕ) where
   three_of : judge s ≡ refused 3 p → AcceptedBefore s p

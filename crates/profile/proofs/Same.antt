@@ -1,13 +1,15 @@
 -- The judgement by places says what the judgement field by field says: one number and one place, or one profile.
+use mathlib.Core.Bool.{Bool, true, false}
 use mathlib.Core.Path.{◌≡◌, refl, sym, ap, ◌∙◌, subst}
-use Prim.Native.Nat.{ℕ, ◌+◌, ◌*◌}
+use Prim.Native.Nat.{ℕ, ◌+◌, ◌*◌, ◌≤◌}
 use native.Mathlib.Omega.{arith}
 use mathlib.Core.List.{List}
 use lib.ListN.{length}
-use lib.Dec.{eqb, eqb→eq}
-use Rattle.profile.specs.Reader.{Got}
+use lib.Dec.{leb, leb→le, eqb, eqb→eq}
+use Rattle.octets.specs.Lists.{pick}
+use Rattle.profile.specs.Reader.{Got, got, fault, and_then}
 use Rattle.profile.specs.Image as image
-use Rattle.profile.specs.Image.{accepted}
+use Rattle.profile.specs.Image.{accepted, refused}
 use Rattle.profile.specs.Judging as judging
 use Rattle.profile.specs.Judging.{verdict}
 use Rattle.cells.specs.Inner.Out.{Out, good, bad}
@@ -17,12 +19,12 @@ use Rattle.cells.specs.Inner.Places.{word, past}
 use Rattle.entries.specs.Inner.Places.{spaced, row_numbers, member_numbers, criterion_numbers}
 use Rattle.profile.specs.Inner.Decoded.{layout, strings, profile_in, judged_by}
 use Rattle.cells.proofs.Laws.{good_inj, bad_good}
-use Rattle.profile.proofs.Placed.{accepted_short}
 use Rattle.profile.proofs.SameFields.{Same, same_got, same_fault, then_is, then_must, then_done, then_tested, texts_of, u8_same, counted_same}
 use Rattle.profile.proofs.SameSections.{strings_same, rows_same, members_same, all_placed_same, criteria_same}
 
--- an image without a fault: its parts by places lie where `layout` says, to the image's end
+-- an accepted image: its parts by places lie where `layout` says, to the image's end
 pub record Laid (s : List ℕ) (p : Entries) : Type 0 where
+  pub size : length s ≤ 32768
   pub strings : p.strings ≡ texts_of (strings s)
   pub rows : p.rows ≡ spaced (row_numbers s) 7 (layout s).rows (layout s).row_count
   pub members : p.members ≡ spaced (member_numbers s) 4 (layout s).members (layout s).member_count
@@ -30,11 +32,15 @@ pub record Laid (s : List ℕ) (p : Entries) : Type 0 where
   pub end : (layout s).criteria + 15 * (layout s).criterion_count ≡ length s
 
 module _ (s : List ℕ) where
-  -- what both readings of an image without a fault give
+  -- the size, then all else
+  abbrev sized : Got image.Profile
+  sized = and_then (pick (leb (length s) 32768) (got (tt {0}) 0) (fault 1 0)) (λ u at. judging.profile s at)
+
+  -- what both readings of an accepted image give
   abbrev Read : image.Profile → ℕ → Entries → Type 0
   Read q k p = (q ≡ profile_in s) × Laid s p
 
-  image_same : Same Read (judging.profile s 0) (places.judge_by_places s)
+  image_same : Same Read sized (places.judge_by_places s)
   unfolding judging.profile places.judge_by_places layout strings profile_in
   image_same =
       let n₁ : ℕ = word s 1 in
@@ -45,6 +51,7 @@ module _ (s : List ℕ) where
       let at₄ : ℕ = at₃ + 2 + 4 * n₃ in
       let n₄ : ℕ = word s at₄ in
       let end : ℕ = at₄ + 2 + 15 * n₄ in
+      then_must Read (leb (length s) 32768) 1 0 0 _ _ λ fits.
       then_tested Read (λ v. eqb v 1) 0 _ _ (u8_same s 0) λ edition.
       then_is Read _ _ (counted_same s 1 1024)
       (then_is Read _ _ (strings_same s n₁ 3)
@@ -58,6 +65,7 @@ module _ (s : List ℕ) where
       (then_must Read (eqb end (length s)) 3 end end _ _ λ all. same_got (
         refl,
         record {
+          size = leb→le (length s) 32768 fits;
           strings = refl;
           rows = refl;
           members = refl;
@@ -71,8 +79,14 @@ module _ (s : List ℕ) where
   judged_same (same_got r) = ap accepted r.0
   judged_same same_fault = refl
 
-  pub verdict_same : verdict (judging.profile s 0) ≡ judged_by s (places.judge_by_places s)
-  verdict_same = judged_same image_same
+  -- Judging asks the size outside the reading
+  size_first : (b : Bool) (x : ℕ → Got image.Profile) → pick b (verdict (x 0)) (refused 1 0) ≡ verdict (and_then (pick b (got (tt {0}) 0) (fault 1 0)) (λ u at. x at))
+  size_first true x = refl
+  size_first false x = refl
+
+  pub judge_same : judging.judge s ≡ judged_by s (places.judge_by_places s)
+  unfolding judging.judge
+  judge_same = size_first (leb (length s) 32768) (judging.profile s) ∙ judged_same image_same
 
   -- ---- an accepted image
 
@@ -83,10 +97,10 @@ module _ (s : List ℕ) where
   pub laid : (p : Entries) → places.judge_by_places s ≡ good p → Laid s p
   laid p e = laid_by p image_same e
 
-  pub good_of : (o : Out Entries) (q : image.Profile) → judged_by s o ≡ accepted q → (p : Entries) × (o ≡ good p) × (q ≡ profile_in s)
+  good_of : (o : Out Entries) (q : image.Profile) → judged_by s o ≡ accepted q → (p : Entries) × (o ≡ good p) × (q ≡ profile_in s)
   good_of (good p) q e = (p, refl, cc)
   good_of (bad n k) q e = let z : ◌≡◌ {A = ℕ} 0 1 = cc in absurd (omega arith)
 
   -- what is accepted is accepted by places, and is the profile that stands there
   pub accepted_good : (q : image.Profile) → judging.judge s ≡ accepted q → (p : Entries) × (places.judge_by_places s ≡ good p) × (q ≡ profile_in s)
-  accepted_good q e = good_of (places.judge_by_places s) q (sym verdict_same ∙ (accepted_short s q e).1)
+  accepted_good q e = good_of (places.judge_by_places s) q (sym judge_same ∙ e)

@@ -2,7 +2,7 @@
 use mathlib.Core.Path.{◌≡◌, refl, sym, ap, ap₂, ◌∙◌}
 use Prim.Native.Nat.{ℕ, zero, suc, ◌+◌}
 use native.Mathlib.Omega.{arith}
-use borrow.Author.Tests.{eq-eqb}
+use borrow.Author.Tests.{le-leb, eq-eqb}
 use mathlib.Core.List.{List, [], ◌∷◌, ◌++◌, map, append-nil}
 use lib.ListN.{length, length-drop}
 use Rattle.profile.specs.Image as image
@@ -16,14 +16,12 @@ use Rattle.profile.specs.Written.{Entries, string, row, membership, criterion, s
 use Rattle.cells.specs.Inner.Places.{word, reading_strings, offsets, past}
 use Rattle.entries.specs.Inner.Places.{reading_rows, reading_members, reading_criteria, follows, stands, has, spaced, row_numbers, member_numbers, criterion_numbers}
 use Rattle.profile.specs.Inner.Decoded.{stored, strings, layout, row_from, member_with, member_from, criterion_with, criterion_from, profile_in, judged_by}
-use Rattle.profile.specs.Inner.Writable.{RightString, RightRow, RightMember, RightCriterion, Faultless, Writable, rows_from, strings_of, rows_place, meant}
+use Rattle.profile.specs.Inner.Writable.{RightString, RightRow, RightMember, RightCriterion, Writable, rows_from, strings_of, rows_place, meant}
 use Rattle.entries.specs.declared.Row.{Row}
 use Rattle.cells.proofs.Laws.{counted_inv}
-use Rattle.profile.proofs.Same.{Laid, laid, verdict_same}
-use Rattle.profile.proofs.Placed.{judge_short}
+use Rattle.profile.proofs.Same.{Laid, laid, judge_same}
 use Rattle.profile.proofs.WrittenFields.{Rest, further, u8_back}
 use Rattle.profile.proofs.WrittenEntries.{string_back, row_back, member_back, criterion_back}
-use Rattle.profile.proofs.WrittenPlaces.{strings_end, rows_end, members_end, after_strings, after_rows, at_strings, at_rows, at_members, at_criteria}
 use Rattle.profile.proofs.WrittenSections.{beyond, Back, section_back, placed_back, stored_back}
 
 -- ---- what is made of items of one width
@@ -45,7 +43,14 @@ made r m c = cc
 
 -- ---- the image
 
-module _ (s : List ℕ) (p : Entries) (is : s ≡ written p) (sound : Faultless p) where
+-- what stands after the rows, and after the strings
+abbrev after_rows : Entries → List ℕ
+after_rows p = section membership p.members ++ section criterion p.criteria
+
+abbrev after_strings : Entries → List ℕ
+after_strings p = section row p.rows ++ after_rows p
+
+module _ (s : List ℕ) (p : Entries) (is : s ≡ written p) (sound : Writable p) where
   n_rows : ℕ
   n_rows = length p.rows
 
@@ -53,26 +58,27 @@ module _ (s : List ℕ) (p : Entries) (is : s ≡ written p) (sound : Faultless 
   all = record { inside = omega arith; is = is }
 
   at₂ : ℕ
-  at₂ = strings_end p
+  at₂ = beyond string p.strings 1
 
   at₃ : ℕ
-  at₃ = rows_end p
+  at₃ = beyond row p.rows at₂
 
   at₄ : ℕ
-  at₄ = members_end p
+  at₄ = beyond membership p.members at₃
 
   strings_in : Back s (λ _. cells.string s) string 1024 1 p.strings (after_strings p)
+  unfolding written
   strings_in =
       section_back s (λ _. cells.string s) string (λ _. RightString) (λ before a at t h r. string_back s at a t h r)
       1024 1 p.strings (after_strings p) sound.strings_few (omega arith) sound.strings
-      (at_strings s p all)
+      (further all 1 (omega arith))
 
   rows_in : Back s (λ _. parts.reading_row s p.strings) row 2048 at₂ p.rows (after_rows p)
   unfolding at₂
   rows_in =
       section_back s (λ _. parts.reading_row s p.strings) row (λ _. RightRow p.strings)
       (λ before a at t h r. row_back s at t p.strings sound.strings_few a h r)
-      2048 at₂ p.rows (after_rows p) sound.rows_few (omega arith) sound.rows (at_rows s p all)
+      2048 at₂ p.rows (after_rows p) sound.rows_few (omega arith) sound.rows strings_in.next
 
   members_in : Back s (λ before. parts.reading_member s n_rows (follows before)) membership 16384 at₃ p.members
       (section criterion p.criteria)
@@ -80,14 +86,14 @@ module _ (s : List ℕ) (p : Entries) (is : s ≡ written p) (sound : Faultless 
   members_in =
       section_back s (λ before. parts.reading_member s n_rows (follows before)) membership (RightMember n_rows)
       (λ before a at t h r. member_back s at t n_rows sound.rows_few before a h r)
-      16384 at₃ p.members (section criterion p.criteria) sound.members_few (omega arith) sound.members (at_members s p all)
+      16384 at₃ p.members (section criterion p.criteria) sound.members_few (omega arith) sound.members rows_in.next
 
   criteria_in : Back s (λ before. parts.reading_criterion s p.strings n_rows (stands before)) criterion 64 at₄ p.criteria []
   unfolding at₄ n_rows
   criteria_in =
       section_back s (λ before. parts.reading_criterion s p.strings n_rows (stands before)) criterion (RightCriterion p.strings n_rows)
       (λ before a at t h r. criterion_back s at t p.strings sound.strings_few n_rows sound.rows_few before a h r)
-      64 at₄ p.criteria [] sound.criteria_few (omega arith) sound.criteria (rw append-nil (at_criteria s p all))
+      64 at₄ p.criteria [] sound.criteria_few (omega arith) sound.criteria (rw append-nil members_in.next)
 
   end : ℕ
   end = beyond criterion p.criteria at₄
@@ -100,6 +106,7 @@ module _ (s : List ℕ) (p : Entries) (is : s ≡ written p) (sound : Faultless 
   unfolding places.judge_by_places reading_strings reading_rows reading_members reading_criteria at₂ at₃ at₄ n_rows end written
   read_back =
       rw (
+        le-leb (length s) 32768 (rw is sound.size),
         u8_back s 0 (section string p.strings ++ after_strings p) 1 all,
         strings_in.count,
         strings_in.items,
@@ -150,16 +157,11 @@ module _ (s : List ℕ) (p : Entries) (is : s ≡ written p) (sound : Faultless 
   profile_is = made rows_mean members_mean criteria_mean
 
 -- what is written is read back
-pub written_read : (p : Entries) → Faultless p → places.judge_by_places (written p) ≡ good p
+pub written_read : (p : Entries) → Writable p → places.judge_by_places (written p) ≡ good p
 written_read p sound = read_back (written p) p refl sound
 
--- it means its entries
-pub written_means : (p : Entries) → Faultless p → profile_in (written p) ≡ meant p
-written_means p sound = profile_is (written p) p refl sound
-
--- and is accepted, with this meaning
+-- and is accepted, with its meaning
 pub written_judged : (p : Entries) → Writable p → judging.judge (written p) ≡ accepted (meant p)
 written_judged p sound =
-    judge_short (written p) (judging.profile (written p) 0) sound.size refl
-    ∙ verdict_same (written p) ∙ ap (judged_by (written p)) (written_read p sound.entries)
-    ∙ ap accepted (written_means p sound.entries)
+    judge_same (written p) ∙ ap (judged_by (written p)) (written_read p sound)
+    ∙ ap accepted (profile_is (written p) p refl sound)

@@ -1,14 +1,15 @@
 // Judges a profile image: accepted, or refused with a number and a place.
 #![tactic(auto)]
+
 ghost use Rattle.std.specs.Prelude.{◌≡◌, [], ◌+◌, ◌≤◌, length};
 ghost use Rattle.cells.specs.Inner.Places.{texts};
 ghost use Rattle.entries.specs.Inner.Places.{spaced, row_numbers, member_numbers};
-ghost use Rattle.profile.specs.Judging.{profile, verdict};
+ghost use Rattle.profile.specs.Inner.Places.{judge_by_places};
 ghost use Rattle.profile.specs.Image.{refused};
 ghost use Rattle.profile.specs.Inner.Kept.{kept, Judges};
 ghost use Rattle.profile.specs.Inner.Decoded.{stored_in, string_of, laid_criteria, laid_members, laid_rows};
 ghost use Rattle.cells.specs.Inner.Answers.{field_out, Table, Known};
-ghost use Rattle.profile.specs.Inner.Answers.{LaidAs, Laid, opening, criteria_on, members_on, rows_on, judged_out, told};
+ghost use Rattle.profile.specs.Inner.Answers.{LaidAs, Laid, opening, criteria_on, members_on, rows_on, judged_out};
 
 use cells::{Field, byte_at, count_at, judge_strings, strings, text};
 use entries::{all_placed, criteria, members, rows};
@@ -34,10 +35,16 @@ pub enum Judged {
     Refused { number: u8, place: usize },
 }
 
-// The edition and the number of strings.
+// The size, the edition and the number of strings.
 fn open_image(s: &[u8]) -> Field
     ensures { field_out result ≡ opening s.now }
 {
+    if 32768 < s.len() {
+        return Field::Refused {
+            number: 1,
+            place: 0,
+        };
+    }
     let f = byte_at(s, 0);
     let Field::Is(edition) = f else {
         return f;
@@ -54,7 +61,7 @@ fn open_image(s: &[u8]) -> Field
 
 // From section 4 on.
 fn from_criteria(s: &[u8], table: &[u16; 1024], uses: &[u8; 1024], y: Layout, at: usize) -> Judged
-    requires { (at ≤ 148000) × Known s.now y.strings table.now uses.now }
+    requires { (at ≤ 120000) × Known s.now y.strings table.now uses.now }
     ensures table_value { judged_out result s.now table.now ≡ criteria_on s.now (texts s.now y.strings table.now) (spaced (row_numbers s.now) 7 y.rows y.row_count) (spaced (member_numbers s.now) 4 y.members y.member_count) y.row_count at }
     ensures laid { LaidAs result (laid_criteria s.now y at) }
 {
@@ -97,7 +104,7 @@ fn from_members(
     n: usize,
     at: usize,
 ) -> Judged
-    requires { (at ≤ 79990) × (rows ≤ 80000) × (n ≤ 2048) × Known s.now strings table.now uses.now }
+    requires { (at ≤ 50000) × (rows ≤ 50000) × (n ≤ 2048) × Known s.now strings table.now uses.now }
     ensures table_value { judged_out result s.now table.now ≡ members_on s.now (texts s.now strings table.now) (spaced (row_numbers s.now) 7 rows n) n rows at }
     ensures laid { LaidAs result (laid_members s.now strings rows n at) }
 {
@@ -129,7 +136,7 @@ fn from_members(
 
 // From section 2 on.
 fn from_rows(s: &[u8], table: &[u16; 1024], strings: usize, at: usize) -> Judged
-    requires { (at ≤ 65535) × Table s.now strings table.now }
+    requires { (at ≤ 32768) × Table s.now strings table.now }
     ensures table_value { judged_out result s.now table.now ≡ rows_on s.now (texts s.now strings table.now) at }
     ensures laid { LaidAs result (laid_rows s.now strings at) }
 {
@@ -146,10 +153,10 @@ fn from_rows(s: &[u8], table: &[u16; 1024], strings: usize, at: usize) -> Judged
     from_members(s, table, &uses, strings, at + 2, n, next)
 }
 
-// The judgement of an image but for number 1, which stands before all others. Of one without a fault the table has the strings' offsets.
-pub fn judge_faults(s: &[u8], table: &mut [u16; 1024]) -> Judged
-    requires { (length table.old ≡ 1024) × (length s.now ≤ 65535) }
-    ensures s_value { told result s.now ≡ verdict (profile s.now 0) }
+// The judgement of an image. Of an accepted one the table has the strings' offsets.
+fn judge_image(s: &[u8], table: &mut [u16; 1024]) -> Judged
+    requires { length table.old ≡ 1024 }
+    ensures table_after { judged_out result s.now table.new ≡ judge_by_places s.now }
     ensures laid { Laid result s.now table.old table.new }
 {
     let n = match open_image(s) {
@@ -198,11 +205,8 @@ fn refused_with(number: u32, place: u32) -> Judgement
 pub fn judge(s: &[u8]) -> Judgement
     ensures { Judges s.now result }
 {
-    if 32768 < s.len() {
-        return refused_with(1, 0);
-    }
     let mut table = [0u16; 1024];
-    match judge_faults(s, &mut table) {
+    match judge_image(s, &mut table) {
         Judged::Accepted(y) => Judgement {
             refusal: 0,
             place: 0,

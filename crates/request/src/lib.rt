@@ -1,6 +1,7 @@
 // The SIP request: readable or not, its start line and its fields. What stands in a field's value and in the body is read by `contents`.
 // The definitions stand in specs/.
 #![tactic(auto)]
+
 ghost use Rattle.std.specs.Prelude.{◌≡◌, [], ◌+◌, ◌-◌, ◌≤◌, ◌<◌, T, ltb, length, get_or};
 ghost use Rattle.octets.specs.Lists.{pick};
 ghost use Rattle.request.specs.Inner.Places.{head_of, Rooms, Read, Placed, Fielded, field_parts};

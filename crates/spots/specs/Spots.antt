@@ -1,5 +1,5 @@
 -- Where a row's patterns match in a field or line, and in the first of them (document 02, change request 2).
-use Rattle.std.specs.Prelude.{Bool, true, false, List, [], ◌∷◌, ℕ, suc}
+use Rattle.std.specs.Prelude.{true, false, List, [], ◌∷◌, ℕ, suc}
 use Rattle.octets.specs.Lists.{pick}
 use Rattle.place.specs.declared.Place.{Place}
 use Rattle.spots.specs.declared.Shown.{Shown}

@@ -1,6 +1,7 @@
 // Which field, or line of the body, which value of it and which part of that a row's prepared patterns match first (document 02, change
 // request 2). The definitions stand in specs/.
 #![tactic(auto)]
+
 ghost use Rattle.std.specs.Prelude.{◌≡◌, true, false, ◌∷◌, [], ◌≤◌, length};
 ghost use Rattle.pattern.specs.Inner.Prepared.{Ready};
 ghost use Rattle.contents.specs.Body.{session_lines};

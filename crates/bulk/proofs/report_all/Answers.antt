@@ -1,5 +1,5 @@
 use native.Mathlib.Omega.{arith}
-use mathlib.Core.Path.{sym, ◌∙◌, subst}
+use mathlib.Core.Path.{subst}
 use Prim.Native.Nat.{ℕ, ◌<◌, ◌≤◌}
 use Rattle.bulk.proofs.Walking.{turn, ended}
 use Rattle.bulk.proofs.report_all.Goals as goal

@@ -11,7 +11,7 @@ field_out (Refused n p) = bad n p
 
 -- What the strings' reader leaves: where they end, and the table with their offsets in its first n places; or the refusal
 abbrev pub Tabled : Field → List ℕ → ℕ → List ℕ → Type 0
-Tabled (Is e) s n table = (reading_strings s n 3 ≡ good (texts s n table, e)) × Inside s n table × (e ≤ 65535) × (length table ≡ 1024)
+Tabled (Is e) s n table = (reading_strings s n 3 ≡ good (texts s n table, e)) × Inside s n table × (e ≤ 32768) × (length table ≡ 1024)
 Tabled (Refused m p) s n table = reading_strings s n 3 ≡ bad m p
 
 -- and the table holds the places of the strings, and beyond them what it held

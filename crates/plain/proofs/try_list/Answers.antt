@@ -1,5 +1,4 @@
 use native.Mathlib.Omega.{arith}
-use Prim.Native.Nat.{◌-◌}
 use Rattle.plain.proofs.Trying.{walk_start, walk_end, walk_close, walk_more, last_inside}
 use Rattle.plain.proofs.try_list.Goals as goal
 

@@ -1,13 +1,12 @@
 -- What each case of the judgement says, in the paper's numbers, and how the judgement goes from a section on.
-use Rattle.std.specs.Prelude.{ℕ, ◌+◌, List, ◌++◌, length, drop, ◌≡◌, eqb}
+use Rattle.std.specs.Prelude.{ℕ, ◌+◌, List, ◌++◌, length, drop, ◌≡◌, leb, eqb}
 use Rattle.cells.specs.Inner.Out.{Out, good, bad, must, ◌>>=◌, ◌>>◌}
 use Rattle.cells.specs.Inner.Places.{u8, word, counted, texts, offsets}
 use Rattle.entries.specs.Inner.Places.{reading_rows, reading_members, reading_criteria, placed, has, spaced, row_numbers, member_numbers, criterion_numbers}
 use Rattle.entries.specs.declared.Row.{Row}
 use Rattle.entries.specs.declared.Member.{Member}
 use Rattle.profile.specs.Written.{Entries}
-use Rattle.profile.specs.Image as image
-use Rattle.profile.specs.Inner.Decoded.{layout, profile_in}
+use Rattle.profile.specs.Inner.Decoded.{layout}
 use Rattle.profile.specs.declared.Layout.{Layout}
 use Rattle.profile.specs.declared.Judged.{Judged}
 use Rattle.profile.specs.declared.Judged.TheVariants.{Accepted}
@@ -16,6 +15,7 @@ use Rattle.profile.specs.declared.Judged.TheVariants.{Accepted}
 
 unfoldable pub opening : List ℕ → Out ℕ
 opening s = do
+  must (leb (length s) 32768) 1 0
   edition ← u8 s 0
   must (eqb edition 1) 4 0
   counted s 1 1024
@@ -52,11 +52,6 @@ profile_at s table y = record {
 abbrev pub judged_out : Judged → List ℕ → List ℕ → Out Entries
 judged_out (Accepted y) s table = good (profile_at s table y)
 judged_out (Judged.Refused m p) s table = bad m p
-
--- the judgement in the paper's words
-abbrev pub told : Judged → List ℕ → image.Judged
-told (Accepted y) s = image.accepted (profile_in s)
-told (Judged.Refused m p) s = image.refused m p
 
 -- the layout of an accepted image is z
 abbrev pub laid_as : Judged → Layout → Type 0

@@ -1,6 +1,6 @@
--- The judgement but for the size, as the code goes, by places in the bytes; it keeps no string. The definition to believe is
--- `Judging.profile`; `proofs/Same` shows that both give the same number and place.
-use Rattle.std.specs.Prelude.{ℕ, ◌+◌, List, length, eqb}
+-- The judgement as the code goes, by places in the bytes; it keeps no string. The definition to believe is
+-- `Judging.judge`; `proofs/Same` shows that both give the same number and place.
+use Rattle.std.specs.Prelude.{ℕ, ◌+◌, List, length, leb, eqb}
 use Rattle.profile.specs.Written.{Entries}
 use Rattle.cells.specs.Inner.Out.{Out, good, ◌>>=◌, must, ◌>>◌}
 use Rattle.cells.specs.Inner.Places.{u8, counted, reading_strings}
@@ -8,6 +8,7 @@ use Rattle.entries.specs.Inner.Places.{reading_rows, reading_members, has, place
 
 unfoldable pub judge_by_places : List ℕ → Out Entries
 judge_by_places s = do
+  must (leb (length s) 32768) 1 0
   edition ← u8 s 0
   must (eqb edition 1) 4 0
   n₁ ← counted s 1 1024

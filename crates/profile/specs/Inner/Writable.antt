@@ -61,8 +61,9 @@ abbrev pub InTurn : {A : Type 0} → (List A → A → Type 0) → List A → Li
 InTurn P before [] = Unit {0}
 InTurn P before (a ∷ l) = P before a × InTurn P (before ++ (a ∷ [])) l
 
--- the image has no fault: "Strings (0..1,024)", "Trigger rows (0..2,048)", "Memberships (0..16,384)", "Every row has 1 to 8", "Criteria (0..64)"
-pub record Faultless (p : Entries) : Type 0 where
+-- "Strings (0..1,024)", "Trigger rows (0..2,048)", "Memberships (0..16,384)", "Every row has 1 to 8", "Criteria (0..64)",
+-- "At most 32,768 bytes"
+pub record Writable (p : Entries) : Type 0 where
   pub strings_few : length p.strings ≤ 1024
   pub strings : InTurn (λ _. RightString) [] p.strings
   pub rows_few : length p.rows ≤ 2048
@@ -72,10 +73,6 @@ pub record Faultless (p : Entries) : Type 0 where
   pub placed : (r : ℕ) → r < length p.rows → (1 ≤ has p.members r) × (has p.members r ≤ 8)
   pub criteria_few : length p.criteria ≤ 64
   pub criteria : InTurn (RightCriterion p.strings (length p.rows)) [] p.criteria
-
--- and it is within the limit: "At most 32,768 bytes"
-pub record Writable (p : Entries) : Type 0 where
-  pub entries : Faultless p
   pub size : length (written p) ≤ 32768
 
 -- ---- what it means
@@ -121,9 +118,9 @@ unfolding has
 asking_from_placed zero h = (omega arith, omega arith)
 asking_from_placed (suc r) h = absurd (omega arith)
 
-asking_from_faultless : Faultless asking_from
-unfolding usable is_pattern read_pattern
-asking_from_faultless = record {
+pub asking_from_sound : Writable asking_from
+unfolding written usable is_pattern read_pattern
+asking_from_sound = record {
   strings_few = omega arith;
   strings = (omega arith, (omega arith, tt));
   rows_few = omega arith;
@@ -146,8 +143,5 @@ asking_from_faultless = record {
     },
     tt,
   );
+  size = omega arith;
 }
-
-pub asking_from_sound : Writable asking_from
-unfolding written
-asking_from_sound = record { entries = asking_from_faultless; size = omega arith }

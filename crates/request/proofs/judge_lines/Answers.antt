@@ -16,7 +16,9 @@ pub overflow_add-n-in-Good : goal.overflow_add-n-in-Good
 overflow_add-n-in-Good c = omega (arith, n_inside c.args.h.now _ c.requires c.place_of-n.ensures)
 
 pub are_fields-requires : goal.are_fields-requires
-are_fields-requires c = record { classes = search rules; from_in_bounds = (
+are_fields-requires c = record {
+  classes = search rules;
+  from_in_bounds = (
     omega (
       arith,
       n_inside c.args.h.now _
@@ -25,7 +27,8 @@ are_fields-requires c = record { classes = search rules; from_in_bounds = (
     ),
     search rules,
     search rest_paired,
-  ) }
+  );
+}
 
 pub overflow_add-result : goal.overflow_add-result
 overflow_add-result c =

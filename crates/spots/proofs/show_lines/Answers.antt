@@ -1,4 +1,3 @@
-use Prim.Native.Nat.{◌-◌}
 use Rattle.trials.proofs.Lining.{other_less, type_inside, type_room, typed_order, typed_inside, typed_less}
 use Rattle.spots.proofs.Showing.{lining_first, lining_end, lining_other, lining_found, lining_low, lining_next, line_value_short, count_room, none_shown_low}
 use borrow.Author.Rules.{rules}

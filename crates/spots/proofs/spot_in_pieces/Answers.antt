@@ -1,4 +1,3 @@
-use Prim.Native.Nat.{◌-◌}
 use Rattle.trials.proofs.Values.{value_order, value_inside, value_less}
 use Rattle.spots.proofs.Valuing.{seeking_first, seeking_found, seeking_low, seeking_next, seeking_end, value_room, no_spot_low}
 use borrow.Author.Rules.{rules}

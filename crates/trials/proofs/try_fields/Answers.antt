@@ -1,4 +1,3 @@
-use Prim.Native.Nat.{◌-◌}
 use borrow.Author.Rules.{rules}
 use Rattle.trials.proofs.Fielding.{fielding_first, fielding_few, fielding_end, fielding_next, fielding_fit}
 use Rattle.request.proofs.OneField.{name_order, name_inside, value_order, value_inside, value_short, value_room}

@@ -1,4 +1,3 @@
-use Prim.Native.Nat.{◌-◌}
 use borrow.Author.Rules.{rules}
 use Rattle.trials.proofs.Lining.{lining_first, lining_end, lining_few, other_less, lining_other, type_inside, type_room, typed_order, typed_inside, typed_less, lining_next, lining_fit}
 use Rattle.trials.proofs.try_lines.Goals as goal

@@ -1,4 +1,3 @@
-use Prim.Native.Nat.{◌-◌}
 use borrow.Author.Rules.{rules}
 use Rattle.trials.proofs.Values.{trying_first, value_order, value_inside, value_less, trying_next, trying_end, trying_few}
 use Rattle.trials.proofs.try_pieces.Goals as goal

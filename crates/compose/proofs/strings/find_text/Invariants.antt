@@ -1,5 +1,5 @@
 use Prim.Native.Nat.{◌-◌}
-use Rattle.tell.specs.Inner.Values.{decoded}
+use Rattle.compose.specs.Inner.Values.{decoded}
 use Rattle.compose.proofs.Finding.{Finding}
 use Rattle.compose.proofs.strings.find_text.Given as goal
 

@@ -1,4 +1,3 @@
-use Prim.Native.Nat.{◌-◌}
 use Rattle.contents.proofs.Norm.{reducing_first, reducing_space, place_inside, next_inside, reducing_gap, reducing_text, reducing_length, reducing_count, reducing_end}
 use Rattle.contents.proofs.pieces.normalise.Goals as goal
 

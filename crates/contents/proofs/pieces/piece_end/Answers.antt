@@ -1,4 +1,3 @@
-use Prim.Native.Nat.{◌-◌}
 use Rattle.contents.proofs.Values.{spanning_first, spanning_found, spanning_next, spanning_end}
 use Rattle.contents.proofs.pieces.piece_end.Goals as goal
 

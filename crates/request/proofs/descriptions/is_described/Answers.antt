@@ -1,4 +1,3 @@
-use Prim.Native.Nat.{◌-◌}
 use Rattle.request.proofs.Described.{looking_first, looking_past, looking_on, looking_end, second_one, next_room}
 use Rattle.request.proofs.OneField.{name_order, name_inside, value_order, value_inside, value_short, value_room}
 use borrow.Author.Rules.{rules}

@@ -1,4 +1,3 @@
-use Prim.Native.Nat.{◌-◌}
 use native.Mathlib.Omega.{arith}
 use borrow.Author.Rules.{rules}
 use Rattle.request.proofs.Fields.{checking_first, checking_no, checking_next, checking_end, end_inside}

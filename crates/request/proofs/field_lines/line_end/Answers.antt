@@ -1,5 +1,4 @@
 use mathlib.Core.Path.{refl, sym, ◌∙◌}
-use Prim.Native.Nat.{◌-◌}
 use Rattle.cuts.proofs.Search.{came_end, came_found, came_skip, skip_next}
 use Rattle.request.proofs.Ends.{break_at_cr}
 use Rattle.request.proofs.field_lines.line_end.Goals as goal

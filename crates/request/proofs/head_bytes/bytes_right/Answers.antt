@@ -1,4 +1,3 @@
-use Prim.Native.Nat.{◌-◌}
 use native.Mathlib.Omega.{arith}
 use Rattle.request.proofs.Head.{passed_none, bytes_end, bytes_printed, bytes_lone, bytes_pair, bytes_other, bytes_wrong}
 use Rattle.request.proofs.head_bytes.bytes_right.Goals as goal

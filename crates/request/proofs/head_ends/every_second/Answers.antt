@@ -1,4 +1,3 @@
-use Prim.Native.Nat.{◌-◌}
 use Rattle.request.proofs.Seconds.{above_none, above_next, low_past}
 use Rattle.request.proofs.head_ends.every_second.Goals as goal
 

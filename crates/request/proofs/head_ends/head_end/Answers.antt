@@ -1,4 +1,3 @@
-use Prim.Native.Nat.{◌-◌}
 use Rattle.request.proofs.Seconds.{head_start, head_before, next_by_lf, head_here, next_by_cr, head_none}
 use Rattle.request.proofs.head_ends.head_end.Goals as goal
 

@@ -1,4 +1,3 @@
-use Prim.Native.Nat.{◌-◌}
 use Rattle.request.proofs.StartParts.{word_none, word_first, word_no, word_next, word_end}
 use Rattle.request.proofs.start_lines.is_word.Goals as goal
 
