@@ -6,6 +6,8 @@ pub mod Decoding
 pub mod Finding
 pub mod Inserting
 pub mod Promises
+pub mod Sizes
 pub mod Stores
+pub mod TextCosts
 pub mod ToCome
 pub mod Uses

@@ -7,6 +7,9 @@ pub mod Lockstep
 pub mod Matching
 pub mod Opened
 pub mod Placed
+pub mod RightEntries
+pub mod RightFields
+pub mod RightSections
 pub mod Same
 pub mod SameEntries
 pub mod SameFields
@@ -16,4 +19,5 @@ pub mod Standings
 pub mod Writing
 pub mod WrittenEntries
 pub mod WrittenFields
+pub mod WrittenPlaces
 pub mod WrittenSections
