@@ -2,13 +2,17 @@
 // the second program gave. Writes a line for each case that differs, and how many there are. second/README.md has the formats of
 // data/cases and data/answers, and says how they are made.
 #![tactic(auto)]
-ghost use Rattle.std.specs.Prelude.{◌≡◌, ℕ, ◌<◌, true, length, slice_index};
 
-use libc::STDOUT_FILENO;
+ghost use Rattle.std.specs.Prelude.{◌≡◌, ℕ, ◌<◌, ◌≤◌, true, length, slice_index, IfOk};
+
 use octets::{byte_at, from_byte, same_bytes};
 use rows::Given;
 use session::Session;
+use std::alloc::{AllocError, Global};
+use std::io::Read;
 use std::num::{wrapping_add_u32, wrapping_add_usize as on};
+use std::rt::Files;
+use std::{fs, io};
 
 // ---- reading the files: a place past the end reads 0, so that a file that was cut shows as a difference
 
@@ -280,20 +284,20 @@ fn agrees_with_room(cases: &[u8], x: Case, answers: &[u8], at: usize) -> bool {
     agrees(cases, x, answers, at, &mut room[0..n])
 }
 
-fn say(text: &[u8]) {
-    io::write_all(STDOUT_FILENO, text);
+fn say(rt: &impl Print, text: &str) -> io::Result<()> {
+    print!(rt; "{text}")
 }
 
-fn say_number(n: u32) {
-    io::print_decimal(STDOUT_FILENO, n as u64);
+fn say_number(rt: &impl Print, n: u32) -> io::Result<()> {
+    print!(rt; "{n}")
 }
 
-fn say_difference(k: u32, which: u32) {
-    say(b"case ");
-    say_number(k);
-    say(b", call ");
-    say_number(which);
-    say(b": differs\n");
+fn say_difference(rt: &impl Print, k: u32, which: u32) -> io::Result<()> {
+    say(rt, "case ")?;
+    say_number(rt, k)?;
+    say(rt, ", call ")?;
+    say_number(rt, which)?;
+    say(rt, ": differs\n")
 }
 
 // Where the next case and its answer begin, and how many differed so far.
@@ -304,24 +308,30 @@ struct Standing {
     differ: u32,
 }
 
-fn step(cases: &[u8], answers: &[u8], k: u32, at: Standing) -> Standing {
+fn step(
+    rt: &impl Print,
+    cases: &[u8],
+    answers: &[u8],
+    k: u32,
+    at: Standing,
+) -> io::Result<Standing> {
     let x = case_at(cases, at.case);
     let listed = on(at.answer, 4);
     let next = after_numbers(answers, after(answers, listed));
     let case = x.end;
     if agrees_with_room(cases, x, answers, at.answer) {
-        return Standing {
+        return Ok(Standing {
             case,
             answer: next,
             differ: at.differ,
-        };
+        });
     }
-    say_difference(k, x.call);
-    Standing {
+    say_difference(rt, k, x.call)?;
+    Ok(Standing {
         case,
         answer: next,
         differ: wrapping_add_u32(at.differ, 1),
-    }
+    })
 }
 
 // "IFCC" and "IFCA", and one answer for each case.
@@ -331,7 +341,7 @@ fn fit_each_other(cases: &[u8], answers: &[u8]) -> bool {
         & (number(cases, 4) == number(answers, 4))
 }
 
-fn run_all(cases: &[u8], answers: &[u8], count: u32) -> Standing {
+fn run_all(rt: &impl Print, cases: &[u8], answers: &[u8], count: u32) -> io::Result<Standing> {
     let mut at = Standing {
         case: 8,
         answer: 8,
@@ -339,59 +349,67 @@ fn run_all(cases: &[u8], answers: &[u8], count: u32) -> Standing {
     };
     let mut k: u32 = 0;
     while k < count {
-        at = step(cases, answers, k, at);
+        at = step(rt, cases, answers, k, at)?;
         k += 1;
     }
-    at
+    Ok(at)
 }
 
-fn run(cases: &[u8], answers: &[u8]) {
+fn run(rt: &impl Print, cases: &[u8], answers: &[u8]) -> io::Result<()> {
     if !fit_each_other(cases, answers) {
-        say(b"not the cases and their answers\n");
-        return;
+        return say(rt, "not the cases and their answers\n");
     }
     let count = number(cases, 4);
-    let at = run_all(cases, answers, count);
+    let at = run_all(rt, cases, answers, count)?;
     if (at.case != cases.len()) | (at.answer != answers.len()) {
-        say(b"a file does not end with its last case\n");
+        say(rt, "a file does not end with its last case\n")?;
     }
-    say_number(count);
-    say(b" cases, ");
-    say_number(at.differ);
-    say(b" differ\n");
+    say_number(rt, count)?;
+    say(rt, " cases, ")?;
+    say_number(rt, at.differ)?;
+    say(rt, " differ\n")
 }
 
 // The first bytes of two rooms.
-fn run_first(cases: &[u8], n: usize, answers: &[u8], m: usize) {
+fn run_first(rt: &impl Print, cases: &[u8], n: usize, answers: &[u8], m: usize) -> io::Result<()> {
     if cases.len() < n {
-        return;
+        return Ok(());
     }
     if answers.len() < m {
-        return;
+        return Ok(());
     }
-    run(&cases[0..n], &answers[0..m]);
+    run(rt, &cases[0..n], &answers[0..m])
 }
 
 // Some more room than the files have, since a file that fills its room may go on.
-fn room_for_cases() -> [u8; 1000000] {
-    [0; 1000000]
+fn room_for_cases(alloc: Global) -> Result<Vec<u8>, AllocError> {
+    vec![in alloc; 0; 1000000]
 }
 
-fn room_for_answers() -> [u8; 200000] {
-    [0; 200000]
+fn room_for_answers(alloc: Global) -> Result<Vec<u8>, AllocError> {
+    vec![in alloc; 0; 200000]
 }
 
-fn read(name: &[u8], into: &mut [u8]) -> usize {
-    let fd = os::open_read(name);
-    let n = io::read_full(fd, into);
-    libc::close(fd);
-    n
+// Reads a file until the room is full or the file ends, and tells how many bytes it put at the start of the room.
+fn read(rt: &impl Files, name: &str, into: &mut [u8]) -> io::Result<usize>
+    ensures { IfOk result (λ n. n ≤ length into.new) }
+{
+    let mut file = fs::open(rt, name)?;
+    let mut done: usize = 0;
+    while done < into.len() {
+        let n = file.read(&mut into[done..])?;
+        if n == 0 {
+            break;
+        }
+        done += n;
+    }
+    Ok(done)
 }
 
-fn main() {
-    let mut cases = room_for_cases();
-    let mut answers = room_for_answers();
-    let n = read(b"cases", &mut cases);
-    let m = read(b"answers", &mut answers);
-    run_first(&cases, n, &answers, m);
+fn main(rt: HostRuntime) -> io::Result<()> {
+    let mut cases = room_for_cases(rt.alloc())?;
+    let mut answers = room_for_answers(rt.alloc())?;
+    let n = read(&rt, "cases", &mut cases)?;
+    let m = read(&rt, "answers", &mut answers)?;
+    run_first(&rt, &cases, n, &answers, m)
 }
