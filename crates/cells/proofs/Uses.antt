@@ -14,7 +14,7 @@ use borrow.Author.Tests.{eq-eqb, ne_eqb, lt-ltb, le-ltb}
 use Rattle.octets.specs.Lists.{pick, empty}
 use Rattle.octets.specs.Bytes.{token}
 use Rattle.basic.specs.Inner.Judged.{is_pattern}
-use Rattle.cells.specs.Inner.Out.{Out, good, bad, ◌>>=◌}
+use Rattle.cells.specs.Inner.Out.{Out, good, bad}
 use Rattle.cells.specs.Inner.Places.{u16, word, text_at, texts, usable, use_bits, uses_of, named, named_or_absent, exactly}
 use Rattle.cells.specs.Inner.Answers.{Table, Known}
 use Rattle.cells.proofs.Laws.{is, refused}

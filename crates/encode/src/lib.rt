@@ -1,5 +1,6 @@
 // The entries of a profile image, written (document 01, "Profile image"). Each function gives what stands behind.
 #![tactic(auto)]
+
 ghost use Rattle.std.specs.Prelude.{◌≡◌, ◌+◌, ◌≤◌, ◌<◌, [], ◌∷◌, length};
 ghost use Rattle.profile.specs.Written.{two, four, row, membership, criterion};
 ghost use Rattle.encode.specs.Inner.Wrote.{Wrote};

@@ -9,7 +9,7 @@ use mathlib.Core.Bool.{Bool, true, false, ◌||◌, or-false, or-true}
 use mathlib.Core.List.{List, [], ◌∷◌, ◌++◌}
 use lib.Dec.{eqb}
 use borrow.Author.Tests.{eq-eqb, ne_eqb}
-use Rattle.cells.specs.Inner.Out.{Out, good, bad, ◌>>=◌, ◌>>◌}
+use Rattle.cells.specs.Inner.Out.{Out, good, bad, ◌>>=◌}
 use Rattle.cells.specs.Inner.Places.{many, u32, long, limited, named, named_or_absent, ends}
 use Rattle.entries.specs.Inner.Places.{stands, trigger, rest, reading_criterion, reading_criteria}
 use Rattle.entries.specs.declared.Criterion.{Criterion}

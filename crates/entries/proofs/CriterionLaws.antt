@@ -6,7 +6,7 @@ use mathlib.Core.Bool.{Bool, true, false}
 use mathlib.Core.List.{List}
 use lib.Dec.{leb, eqb}
 use borrow.Author.Tests.{eq-eqb, ne_eqb, le-leb, lt-leb, leb-true, leb-false}
-use Rattle.cells.specs.Inner.Out.{Out, good, bad, ◌>>=◌, ◌>>◌}
+use Rattle.cells.specs.Inner.Out.{Out, good, bad, ◌>>=◌}
 use Rattle.cells.specs.Inner.Places.{u16, limited, exactly, named, named_or_absent, ends}
 use Rattle.entries.specs.Inner.Places.{row_start, right_count, row_count, trigger, rest}
 use Rattle.entries.specs.declared.Trigger.{Trigger}

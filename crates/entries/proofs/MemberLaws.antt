@@ -5,7 +5,7 @@ use mathlib.Core.Bool.{Bool, true, false}
 use mathlib.Core.List.{List}
 use lib.Dec.{ltb}
 use borrow.Author.Tests.{eq-eqb, ne_eqb, lt-ltb, le-ltb}
-use Rattle.cells.specs.Inner.Out.{Out, good, bad, ◌>>=◌}
+use Rattle.cells.specs.Inner.Out.{Out, good, bad}
 use Rattle.cells.specs.Inner.Places.{u16}
 use Rattle.entries.specs.Inner.Places.{reading_member, comes}
 use Rattle.entries.specs.declared.Member.{Member}

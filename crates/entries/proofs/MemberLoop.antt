@@ -10,12 +10,12 @@ use lib.ListN.{length, get_or, set, replicate, length-set, length-replicate, get
 use lib.Seq.{get_or-set_same, get_or-set_other}
 use lib.Dec.{ltb, eqb}
 use borrow.Author.Tests.{eq-eqb, ne_eqb, le-leb, lt-leb, ltb-true}
-use Rattle.cells.specs.Inner.Out.{Out, good, bad, ◌>>=◌}
+use Rattle.cells.specs.Inner.Out.{Out, good, bad}
 use Rattle.cells.specs.Inner.Places.{many, u16}
 use Rattle.entries.specs.Inner.Places.{reading_member, reading_members, follows, comes, after, has, placed}
 use Rattle.entries.specs.declared.Member.{Member}
 use Rattle.entries.specs.Inner.Answers.{pair_out, Counted}
-use Rattle.cells.specs.declared.Field.TheVariants.{Is, Refused}
+use Rattle.cells.specs.declared.Field.TheVariants.{Is}
 use Rattle.entries.specs.declared.Pair.{Pair}
 use Rattle.entries.specs.declared.Pair.TheVariants.{Both}
 use Rattle.cells.proofs.Laws.{bind_inv, must_inv, good_inj}

@@ -15,7 +15,7 @@ use Rattle.octets.specs.Lists.{pick}
 use Rattle.octets.proofs.Tests.{T_of, or_cases}
 use Rattle.octets.proofs.Each.{Each, each_snoc}
 use Rattle.profile.specs.Reader.{Got, got, fault, Reader, ◌>>=◌, and_then, give, unless, room, number, integer, field, plain, entries}
-use Rattle.profile.specs.Image.{Stored, Test, header, description, Row, Member, Criterion, Profile, refused}
+use Rattle.profile.specs.Image.{Stored, Test, header, description, Row, Member, Criterion, Profile}
 use Rattle.profile.specs.Judging.{string, from_option, named, naming, naming_or_absent, as_uri, as_method, as_pattern, as_server, as_information, no_second, registration, uri_test, method_test, patterns_test, case_test, test_of, row, follows, last, member, memberships_of, all_rows_have, repeats, first_ok, count_ok, criterion, nothing_follows, profile}
 
 -- the four bytes at a place are those of a criterion k criteria earlier

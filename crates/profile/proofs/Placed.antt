@@ -3,7 +3,7 @@
 use mathlib.Core.Bool.{Bool, true, false, not}
 use mathlib.Core.Path.{◌≡◌, refl, sym, ap, subst, ◌∙◌}
 use mathlib.Core.Logic.{inl, inr, ◌↔◌}
-use Prim.Native.Nat.{ℕ, ◌-◌, ◌≤◌, ◌<◌}
+use Prim.Native.Nat.{ℕ, ◌≤◌, ◌<◌}
 use native.Mathlib.Nat.{le_refl}
 use native.Mathlib.Omega.{arith}
 use mathlib.Core.List.{List}
@@ -12,9 +12,9 @@ use lib.Seq.{length-take-le}
 use lib.Dec.{T, leb, leb→le, nleb→lt}
 use Rattle.octets.specs.Lists.{pick}
 use Rattle.octets.proofs.Tests.{T_of}
-use Rattle.profile.specs.Reader.{Got, got, fault, number}
+use Rattle.profile.specs.Reader.{Got, got, fault}
 use Rattle.profile.specs.Image.{Profile, accepted, refused}
-use Rattle.profile.specs.Judging.{last, criterion, profile, verdict, judge}
+use Rattle.profile.specs.Judging.{profile, verdict, judge}
 use Rattle.profile.proofs.Lockstep.{Earlier, kind_low, kind_not_3, kind_2, kind_6, IsGot, Last, profile_whole}
 
 module _ (s : List ℕ) (n place : ℕ) (e : judge s ≡ refused n place) where

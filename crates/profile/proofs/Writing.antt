@@ -17,7 +17,6 @@ use Rattle.cells.specs.Inner.Places.{word, reading_strings, offsets, past}
 use Rattle.entries.specs.Inner.Places.{reading_rows, reading_members, reading_criteria, follows, stands, has, spaced, row_numbers, member_numbers, criterion_numbers}
 use Rattle.profile.specs.Inner.Decoded.{stored, strings, layout, row_from, member_with, member_from, criterion_with, criterion_from, profile_in, judged_by}
 use Rattle.profile.specs.Inner.Writable.{RightString, RightRow, RightMember, RightCriterion, Writable, rows_from, strings_of, rows_place, meant}
-use Rattle.entries.specs.declared.Row.{Row}
 use Rattle.cells.proofs.Laws.{counted_inv}
 use Rattle.profile.proofs.Same.{Laid, laid, judge_same}
 use Rattle.profile.proofs.WrittenFields.{Rest, further, u8_back}

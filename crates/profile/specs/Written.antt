@@ -1,5 +1,5 @@
 -- The bytes of a profile image that is written from its entries (document 01, "Profile image"): what worked images are made with.
-use Rattle.std.specs.Prelude.{ℕ, ◌+◌, ◌/◌, ◌%◌, List, [], ◌∷◌, ◌++◌, length, T}
+use Rattle.std.specs.Prelude.{ℕ, ◌/◌, ◌%◌, List, [], ◌∷◌, ◌++◌, length}
 use Rattle.entries.specs.declared.Row.{Row}
 use Rattle.entries.specs.declared.Trigger.{Trigger}
 use Rattle.entries.specs.declared.Member.{Member}

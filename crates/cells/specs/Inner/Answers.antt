@@ -1,5 +1,5 @@
 -- What each case of a field's enum says, in the paper's numbers, and what the table of the strings holds.
-use Rattle.std.specs.Prelude.{ℕ, ◌+◌, ◌≤◌, ◌<◌, List, ◌++◌, length, get_or, drop, ◌≡◌}
+use Rattle.std.specs.Prelude.{ℕ, ◌≤◌, ◌<◌, List, ◌++◌, length, get_or, drop, ◌≡◌}
 use Rattle.cells.specs.Inner.Out.{Out, good, bad}
 use Rattle.cells.specs.Inner.Places.{reading_strings, texts, Inside, text_at, uses_of, offsets, past}
 use Rattle.cells.specs.declared.Field.{Field}

@@ -10,7 +10,6 @@ use Rattle.profile.specs.Image as image
 use Rattle.profile.specs.Image.{Stored, Test, request_uri, method, header, session_case, description, Judged, accepted, refused}
 use Rattle.profile.specs.Judging.{as_handled}
 use Rattle.profile.specs.Written.{Entries}
-use Rattle.profile.specs.Inner.Places as places
 use Rattle.cells.specs.Inner.Places.{offsets, past, byte, word, text_at}
 use Rattle.entries.specs.Inner.Places.{spaced, row_numbers, member_numbers, criterion_numbers}
 use Rattle.entries.specs.declared.Row.{Row}

@@ -1,5 +1,5 @@
 -- When entries may be written as an image, and what that image means; `proofs/Writing` shows that it is accepted and means this.
-use Rattle.std.specs.Prelude.{Bool, not, cond, ◌&&◌, ◌||◌, ℕ, ◌+◌, ◌/◌, ◌≤◌, ◌<◌, zero, suc, List, [], ◌∷◌, ◌++◌, map, length, get_or, T, leb, ltb, eqb}
+use Rattle.std.specs.Prelude.{Bool, not, cond, ◌&&◌, ◌||◌, ℕ, ◌+◌, ◌≤◌, ◌<◌, zero, suc, List, [], ◌∷◌, ◌++◌, map, length, get_or, T, leb, ltb, eqb}
 use Rattle.profile.specs.Image as image
 use Rattle.profile.specs.Image.{Stored, accepted}
 use Rattle.profile.specs.Judging.{first_ok}
@@ -10,7 +10,7 @@ use Rattle.entries.specs.declared.Row.{Row}
 use Rattle.entries.specs.declared.Member.{Member}
 use Rattle.entries.specs.declared.Criterion.{Criterion}
 use Rattle.std.proofs.Common.{arith}
-use Rattle.octets.specs.Lists.{text, same}
+use Rattle.octets.specs.Lists.{text}
 use Rattle.basic.specs.Reading.{read_pattern}
 use Rattle.basic.specs.Inner.Judged.{is_pattern}
 use Rattle.profile.specs.Written.{Entries, joined, string, written, row_of, member_of, criterion_of}

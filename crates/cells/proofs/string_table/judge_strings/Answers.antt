@@ -1,4 +1,3 @@
-use Prim.Native.Nat.{◌-◌}
 use Rattle.cells.proofs.Uses.{told_none, told_more, told_all, inside_at}
 use Rattle.cells.proofs.string_table.judge_strings.Goals as goal
 

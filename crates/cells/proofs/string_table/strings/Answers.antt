@@ -1,5 +1,4 @@
 use native.Mathlib.Omega.{arith}
-use Prim.Native.Nat.{◌-◌}
 use Rattle.cells.proofs.Laws.{is, refused}
 use Rattle.cells.proofs.Texts.{head_first, head_more, head_bad, head_end, head_filled, sized_inv}
 use Rattle.cells.proofs.string_table.strings.Goals as goal

@@ -1,6 +1,5 @@
 use native.Mathlib.Omega.{arith}
 use mathlib.Core.Path.{ap, ◌∙◌}
-use Prim.Native.Nat.{◌-◌}
 use Rattle.cells.specs.Inner.Out.{good, bad}
 use Rattle.cells.proofs.Laws.{is, u32_inv}
 use Rattle.entries.proofs.CriteriaLoop.{earlier_none, earlier_not, earlier_found, earlier_all, crit_first, crit_end, crit_cut, crit_repeat, crit_bad, crit_more}
@@ -35,14 +34,14 @@ scan-preserved c =
 pub returns-then-j-n : goal.returns-then-j-n
 returns-then-j-n c =
     elim c.if-n-j.branch [
-      then-n-j w ↦ absurd (omega arith)
-    | else-n-j+in-Is+then-loop-i-test+then-priority-p w ↦
-        ap (bad 6) w.found-is ∙ crit_repeat _ _ _ _ _ _ _ c.scan.invariant w.if-n-j.false _ w.long_at-f.ensures _ w.in-Is.is (earlier_found _ _ _ _ _ _ w.loop-i-test.true w.priority.ensures.0 w.if-priority-p.true)
+      | then-n-j w ↦ absurd (omega arith)
+      | else-n-j+in-Is+then-loop-i-test+then-priority-p w ↦
+          ap (bad 6) w.found-is ∙ crit_repeat _ _ _ _ _ _ _ c.scan.invariant w.if-n-j.false _ w.long_at-f.ensures _ w.in-Is.is (earlier_found _ _ _ _ _ _ w.loop-i-test.true w.priority.ensures.0 w.if-priority-p.true)
     ]
 
 pub returns : goal.returns
 returns c =
     elim c.if-n-j.branch [
-      then-n-j w ↦ ap good w.found-is ∙ crit_end _ _ _ _ _ _ _ c.scan.invariant w.if-n-j.true
-    | else-n-j+in-Is+then-loop-i-test+then-priority-p w ↦ absurd (omega arith)
+      | then-n-j w ↦ ap good w.found-is ∙ crit_end _ _ _ _ _ _ _ c.scan.invariant w.if-n-j.true
+      | else-n-j+in-Is+then-loop-i-test+then-priority-p w ↦ absurd (omega arith)
     ]

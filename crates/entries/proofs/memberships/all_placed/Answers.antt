@@ -1,4 +1,3 @@
-use Prim.Native.Nat.{◌-◌}
 use Rattle.entries.proofs.MemberLoop.{placed_first, placed_none, placed_many, placed_more, placed_end}
 use Rattle.entries.proofs.memberships.all_placed.Goals as goal
 

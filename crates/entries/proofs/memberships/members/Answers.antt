@@ -1,6 +1,5 @@
 use borrow.Author.Rules.{rules}
 use native.Mathlib.Omega.{arith}
-use Prim.Native.Nat.{◌-◌, ◌<◌}
 use Rattle.entries.proofs.MemberLoop.{members_first, members_more, members_bad, members_end, in_table, room}
 use Rattle.entries.proofs.memberships.members.Goals as goal
 

@@ -1,4 +1,3 @@
-use Prim.Native.Nat.{◌-◌}
 use Rattle.entries.proofs.RowLoop.{rows_first, rows_more, rows_bad, rows_end}
 use Rattle.entries.proofs.trigger_rows.rows.Goals as goal
 
