@@ -1,11 +1,10 @@
 -- Each point between tags: how the grammar goes on is what the table says.
 use mathlib.Core.Path.{◌≡◌, sym, ap, ap₂, ◌∙◌, fun_ext}
-use Prim.Native.Nat.{ℕ, ◌-◌}
+use Prim.Native.Nat.{ℕ}
 use mathlib.Core.List.{List, [], ◌∷◌}
-use lib.Dec.{T}
 use Rattle.octets.specs.Lists.{text}
 use Rattle.scan.specs.Criteria.{request_uri, method, session_case}
-use Rattle.grammar.specs.Grammar.{one, ◌or◌, many}
+use Rattle.grammar.specs.Grammar.{one, many}
 use Rattle.grammar.specs.Reading.{wrong, better, expect, up_to}
 use Rattle.grammar.proofs.Sound.{solid, sound}
 use Rattle.scan.specs.Table.{gap, blank, open_tag, end_tag, number, string, service_point, initial_filter_criteria, trigger_point}

@@ -8,7 +8,7 @@ use mathlib.Core.List.{List}
 use lib.Dec.{T, leb, eqb, leb→le, eqb→eq}
 use lib.ListN.{length, get_or, drop}
 use Rattle.octets.proofs.Tests.{left, right, or_cases}
-use mathlib.Core.Logic.{◌⊎◌, ⊎_elim}
+use mathlib.Core.Logic.{⊎_elim}
 use native.Mathlib.Nat.{eq-or-lt_of_le}
 use Rattle.octets.proofs.Table as table
 use Rattle.grammar.specs.Reading.{Read, wrong, larger, better, expect}

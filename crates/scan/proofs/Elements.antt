@@ -2,7 +2,7 @@
 use mathlib.Core.Path.{◌≡◌, ap, ◌∙◌}
 use mathlib.Core.List.{List}
 use Prim.Native.Nat.{ℕ}
-use Rattle.grammar.specs.Grammar.{◌then◌, ◌or◌, option, many}
+use Rattle.grammar.specs.Grammar.{option, many}
 use Rattle.grammar.specs.Reading.{expect}
 use Rattle.scan.specs.Table.{gap, open_tag, end_tag, number, string, at_most_two, one_or_more, sip_header, session_description, service_point, trigger_point, application_server, initial_filter_criteria}
 use Rattle.scan.specs.Inner.Events.{note, note_text, if_any, each_of, first_and, of_test, of_row, of_trigger, of_server, of_criterion}

@@ -1,6 +1,6 @@
 -- Points without the values to come.
 use mathlib.Core.Path.{◌≡◌, refl, ap, ap₂, ◌∙◌, fun_ext}
-use Prim.Native.Nat.{ℕ, zero, suc, ◌-◌}
+use Prim.Native.Nat.{ℕ, zero, suc}
 use mathlib.Core.List.{List, ◌∷◌}
 use lib.ListN.{get_or}
 use Rattle.grammar.specs.Grammar.{Grammar, one, ◌then◌, many}

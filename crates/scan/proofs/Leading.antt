@@ -6,7 +6,7 @@ use native.Mathlib.Omega.{arith}
 use mathlib.Core.List.{List, [], ◌∷◌}
 use lib.Dec.{T, eqb, eqb→eq, lit<}
 use lib.ListN.{get_or, drop}
-use Rattle.octets.specs.Lists.{pick, empty, text}
+use Rattle.octets.specs.Lists.{pick, empty}
 use Rattle.octets.proofs.Tests.{left, right, or_cases, test_cases, T_of, not_T_of, is_false}
 use Rattle.octets.proofs.Table as table
 use Rattle.cuts.specs.Inner.Searching.{first}

@@ -1,14 +1,13 @@
 -- Each point in a value, and the one at the top: how the grammar goes on is what the table says.
 use mathlib.Core.Path.{◌≡◌, refl, sym, ap, ◌∙◌, fun_ext}
-use Prim.Native.Nat.{ℕ, ◌-◌}
+use Prim.Native.Nat.{ℕ}
 use mathlib.Core.List.{List}
-use lib.Dec.{T}
 use Rattle.octets.specs.Lists.{text}
 use Rattle.grammar.specs.Grammar.{Grammar, one, ◌then◌, ◌or◌, many}
 use Rattle.grammar.specs.Reading.{wrong, better, expect, expect_one, read}
 use Rattle.grammar.specs.Inner.Made.{Only, forget}
 use Rattle.grammar.proofs.Sound.{solid, sound}
-use Rattle.scan.specs.Table.{digit, plain, character, entity, end_tag, number, string}
+use Rattle.scan.specs.Table.{digit, plain, character, entity, end_tag}
 use Rattle.scan.specs.Inner.Points.{firsts, starts, nexts, letters, word_at, choices, first_word, word_count}
 use Rattle.grammar.proofs.Better.{better_none, better_assoc}
 use Rattle.scan.proofs.Passing.{skipping}

@@ -1,5 +1,6 @@
 // Scans operators' XML (change request 3): whole, or wrong at a place; and from point to point with the values to come.
 #![tactic(auto)]
+
 mod points;
 mod scanner;
 mod tags;

@@ -5,13 +5,12 @@ use Prim.Native.Nat.{ℕ, zero, suc, ◌+◌, ◌-◌, ◌≤◌, ◌<◌}
 use native.Mathlib.Numerals.{add-one}
 use native.Mathlib.Omega.{arith}
 use mathlib.Core.List.{List, [], ◌∷◌}
-use lib.Dec.{T, eqb}
+use lib.Dec.{eqb}
 use lib.ListN.{length, get_or, drop, drop_of_length-le, length-drop}
 use lib.Seq.{drop-cons, drop-drop, get_or-drop}
 use borrow.Author.Tests.{eq-eqb, ne_eqb}
 use Rattle.octets.specs.Lists.{pick}
 use Rattle.octets.proofs.Tests.{either}
-use Rattle.scan.specs.Table.{character, string}
 use Rattle.tell.specs.Inner.Values.{as_character, entity_of, character_of, decoded_by, decoded}
 use Rattle.tell.specs.declared.values.Character.{Character}
 

@@ -1,5 +1,6 @@
 // What operators' XML tells (change request 3): its values, one after the other, and what their bytes say.
 #![tactic(auto)]
+
 mod telling;
 mod values;
 

@@ -1,4 +1,3 @@
-use Prim.Native.Nat.{◌-◌}
 use Rattle.compose.proofs.Finding.{finding_first, finding_found, finding_next, finding_end}
 use Rattle.compose.proofs.strings.find_text.Goals as goal
 

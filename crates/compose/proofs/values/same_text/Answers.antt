@@ -1,4 +1,3 @@
-use Prim.Native.Nat.{◌-◌}
 use Rattle.compose.proofs.Decoding.{less_on}
 use Rattle.compose.proofs.Copying.{comparing_first, comparing_short, comparing_other, comparing_last, comparing_next, comparing_end}
 use Rattle.compose.proofs.values.same_text.Goals as goal

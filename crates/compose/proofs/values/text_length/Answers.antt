@@ -1,4 +1,3 @@
-use Prim.Native.Nat.{◌-◌}
 use Rattle.compose.proofs.Decoding.{lengthening_first, lengthening_end, lengthening_last, lengthening_next, lengthening_less}
 use Rattle.compose.proofs.values.text_length.Goals as goal
 

@@ -1,4 +1,3 @@
-use Prim.Native.Nat.{◌-◌}
 use Rattle.compose.proofs.Counting.{valuing_first, valuing_end, valuing_next}
 use Rattle.compose.proofs.values.value_of.Goals as goal
 

@@ -1,4 +1,3 @@
-use Prim.Native.Nat.{◌-◌}
 use Rattle.scan.proofs.Lettered.{start_order}
 use Rattle.scan.proofs.Choosing.{choosing_first, choosing_word, choosing_start, choosing_stop, choosing_found, choosing_next, choosing_missed}
 use borrow.Author.Rules.{rules}

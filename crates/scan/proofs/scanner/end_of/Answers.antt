@@ -1,4 +1,3 @@
-use Prim.Native.Nat.{◌-◌}
 use Rattle.scan.proofs.Closing.{closing_first, closing_found, closing_next, closing_open}
 use Rattle.scan.proofs.scanner.end_of.Goals as goal
 

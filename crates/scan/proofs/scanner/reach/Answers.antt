@@ -1,4 +1,3 @@
-use Prim.Native.Nat.{◌-◌}
 use Rattle.scan.proofs.Lettered.{reach_first, reach_inside, reach_in_text, reach_short, reach_end, reach_other, reach_next, start_order}
 use Rattle.scan.proofs.scanner.reach.Goals as goal
 

@@ -1,4 +1,3 @@
-use Prim.Native.Nat.{◌-◌}
 use Rattle.scan.proofs.Runs.{running_first, running_end, running_stop, running_next}
 use Rattle.scan.proofs.scanner.run_end.Goals as goal
 

@@ -1,4 +1,3 @@
-use Prim.Native.Nat.{◌-◌}
 use Rattle.scan.specs.Inner.Rests.{plainly}
 use Rattle.scan.proofs.Scanning.{scanning_first, scanning_less, scanning_next, scanning_whole, scanning_wrong}
 use borrow.Author.Rules.{rules}

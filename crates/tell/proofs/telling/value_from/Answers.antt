@@ -1,4 +1,3 @@
-use Prim.Native.Nat.{◌-◌}
 use mathlib.Core.List.{[]}
 use Rattle.scan.specs.Inner.Rests.{rest}
 use Rattle.scan.proofs.Scanning.{scanning_first, scanning_less, scanning_next}

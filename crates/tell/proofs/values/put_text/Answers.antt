@@ -1,6 +1,6 @@
 use mathlib.Core.Path.{◌≡◌}
 use native.Mathlib.Omega.{arith}
-use Prim.Native.Nat.{◌-◌, ◌<◌}
+use Prim.Native.Nat.{◌<◌}
 use lib.ListN.{length}
 use Rattle.tell.proofs.Decoding.{less_on}
 use Rattle.tell.proofs.Copying.{put_first, put_length, put_length_set, put_end, put_done, put_inside, put_last, put_whole, put_next}

@@ -1,4 +1,3 @@
-use Prim.Native.Nat.{◌-◌}
 use Rattle.tell.proofs.Decoding.{less_on}
 use Rattle.tell.proofs.Copying.{comparing_first, comparing_short, comparing_other, comparing_last, comparing_next, comparing_end}
 use Rattle.tell.proofs.values.same_text.Goals as goal

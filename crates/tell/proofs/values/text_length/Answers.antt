@@ -1,4 +1,3 @@
-use Prim.Native.Nat.{◌-◌}
 use Rattle.tell.proofs.Decoding.{lengthening_first, lengthening_end, lengthening_last, lengthening_next, lengthening_less}
 use Rattle.tell.proofs.values.text_length.Goals as goal
 

@@ -1,4 +1,3 @@
-use Prim.Native.Nat.{◌-◌}
 use Rattle.tell.proofs.Counting.{valuing_first, valuing_end, valuing_next}
 use Rattle.tell.proofs.values.value_of.Goals as goal
 
