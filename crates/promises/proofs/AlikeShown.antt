@@ -1,6 +1,6 @@
 -- Demand 3 for a show: what is shown depends on no more of a request than the profile looks at.
 use mathlib.Core.Bool.{Bool}
-use mathlib.Core.Option.{Option, none, some}
+use mathlib.Core.Option.{Option}
 use mathlib.Core.Path.{◌≡◌, refl, sym, ap, ap₂, ◌∙◌, subst}
 use Prim.Native.Nat.{ℕ, zero, suc}
 use mathlib.Core.List.{List, [], ◌∷◌}
@@ -11,15 +11,14 @@ use Rattle.octets.proofs.Tests.{T_of, test_cases, or_left}
 use Rattle.basic.specs.Pattern.{Pattern}
 use Rattle.pattern.specs.Matching.{name_matches}
 use Rattle.contents.specs.Body.{Line}
-use Rattle.profile.specs.Image.{Test, request_uri, method, header, session_case, description, Row, Profile, Judged, accepted, refused}
+use Rattle.profile.specs.Image.{Test, request_uri, method, header, session_case, description, Row, Judged, accepted, refused}
 use Rattle.profile.specs.Judging.{judge}
 use Rattle.request.specs.Request.{Request, Field, read_request}
 use Rattle.spots.specs.Spots.{no_spot, shown_in, first_shown}
 use Rattle.spots.specs.declared.Shown.{Shown}
 use Rattle.spots.specs.declared.Spot.{Spot}
 use Rattle.show.specs.Show.{content_spot, in_field, in_line, test_shown, answered, show_row, show_read, show_judged, show}
-use Rattle.show.specs.declared.Answer.{Answer}
-use Rattle.promises.specs.Agreement.{header_meets, any_header, Agree, MayDiffer, agreeing, no_profile, no_requests}
+use Rattle.promises.specs.Agreement.{header_meets, any_header, MayDiffer, agreeing, no_profile, no_requests}
 use Rattle.promises.proofs.Alike.{Alike, weaken, SeenFields, seen_none, seen_and, seen, lines_alike, asks_body, alike}
 
 one_field : (h : Pattern) (c : Option Pattern) (f g : Field) → f.name ≡ g.name → (T (name_matches h f.name) → f.values ≡ g.values)

@@ -8,7 +8,7 @@ use lib.ListN.{length, take, get_elem?}
 use mathlib.Core.Option.{none, some, Option}
 use Rattle.basic.specs.Pattern.{Pattern, meets}
 use Rattle.basic.specs.Reading.{read_pattern}
-use Rattle.pattern.specs.Matching.{matches, written_matches, name_matches}
+use Rattle.pattern.specs.Matching.{written_matches, name_matches}
 use Rattle.profile.specs.Image.{Stored, Criterion, Profile, accepted, refused, header, description}
 use Rattle.profile.specs.Judging.{judge}
 use Rattle.profile.specs.Reader as reader
@@ -18,7 +18,7 @@ use Rattle.lookups.specs.declared.Checked.{Checked}
 use Rattle.lookups.specs.declared.Lookup.{Lookup}
 use Rattle.lookups.proofs.Parts.{information_part, information_absent}
 use Rattle.request.specs.Request.{Request, Field, request_lines}
-use Rattle.session.specs.Session.{ready, fresh, unopened, open_session, with_state, report_session, Opens, Reports}
+use Rattle.session.specs.Session.{fresh, unopened, open_session, with_state, report_session, Opens, Reports}
 use Rattle.session.specs.declared.Session.{Session}
 use Rattle.session.specs.declared.Opened.{Opened}
 use Rattle.session.specs.declared.Reported.{Reported}

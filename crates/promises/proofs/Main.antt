@@ -6,14 +6,14 @@ use mathlib.Core.Path.{◌≡◌}
 use mathlib.Core.Logic.{◌↔◌}
 use Prim.Native.Nat.{ℕ}
 use mathlib.Core.List.{List, Memᴰ}
-use lib.ListN.{length, get_elem?}
+use lib.ListN.{get_elem?}
 use lib.Dec.{T, eqb}
-use mathlib.Core.Option.{none, some}
+use mathlib.Core.Option.{some}
 use Rattle.octets.specs.Lists.{pick, every}
 use Rattle.basic.specs.Pattern.{Atom, Pattern, Matches}
 use Rattle.pattern.specs.Matching.{matches}
 use Rattle.pattern.proofs.Meaning.{matches_iff}
-use Rattle.profile.specs.Image.{Criterion, Profile, accepted, refused}
+use Rattle.profile.specs.Image.{Criterion, Profile, accepted}
 use Rattle.profile.specs.Judging.{judge}
 use Rattle.lookups.specs.Lookups.{server, the_part, part_of}
 use Rattle.lookups.proofs.Parts.{server_part}

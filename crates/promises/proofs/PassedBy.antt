@@ -12,7 +12,7 @@ use Rattle.octets.proofs.Tests.{or_left, or_right, or_cases, either, test_cases}
 use Rattle.profile.specs.Image.{Profile, accepted}
 use Rattle.profile.specs.Judging.{judge}
 use Rattle.profile.proofs.Accepted.{accepted_sound}
-use Rattle.session.specs.Session.{ready, ended, finished, fresh, unopened, open_session}
+use Rattle.session.specs.Session.{ready, finished, fresh, unopened, open_session}
 use Rattle.session.specs.declared.Session.{Session}
 use Rattle.session.specs.declared.Opened.{Opened}
 use Rattle.order.specs.Order.{Numbered, numbered, priority}

@@ -1,4 +1,3 @@
-use Prim.Native.Nat.{◌-◌}
 use borrow.Author.Rules.{rules}
 use Rattle.fitting.proofs.Members.{seek_first, seek_next, seek_yes, seek_end}
 use Rattle.fitting.proofs.group_hits.Goals as goal

@@ -1,4 +1,3 @@
-use Prim.Native.Nat.{◌-◌}
 use borrow.Author.Rules.{rules}
 use Rattle.fitting.proofs.Members.{hold_first, hold_next, hold_no, hold_end}
 use Rattle.fitting.proofs.groups_hold.Goals as goal

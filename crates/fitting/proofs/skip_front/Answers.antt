@@ -1,4 +1,3 @@
-use Prim.Native.Nat.{◌-◌}
 use borrow.Author.Rules.{rules}
 use Rattle.fitting.proofs.Spans.{front_first, front_next}
 use Rattle.fitting.proofs.skip_front.Goals as goal

@@ -1,7 +1,6 @@
 use Rattle.fitting.proofs.Evaluating.{marking_first, marking_next, marking_fit, marking_end}
 use Rattle.fitting.proofs.Ruling.{row_tried}
 use native.Mathlib.Omega.{arith}
-use Prim.Native.Nat.{◌-◌}
 use mathlib.Core.Path.{◌∙◌}
 use borrow.Author.Rules.{rules}
 use Rattle.fitting.proofs.try_rows.Goals as goal

@@ -17,10 +17,13 @@ try_test-v-requires c = record { table = string_table _ _ _ c.requires.standing.
 
 pub returns-then-negated-eq1 : goal.returns-then-negated-eq1
 returns-then-negated-eq1 c =
-    record { tried = tried_negated _ _ _
+    record {
+      tried = tried_negated _ _ _
           c.requires.standing.0 _ _
           c.read_row-row.ensures _ _ _ c.try_test-v.ensures.value.0 c.try_test-v.ensures.value.1
-          c.if-negated-eq1.true; spare_2 = c.try_test-v.ensures.spare_2 }
+          c.if-negated-eq1.true;
+      spare_2 = c.try_test-v.ensures.spare_2;
+    }
 
 pub returns : goal.returns
 returns c = record { tried = tried_plain _ _ _ c.requires.standing.0 _ _ c.read_row-row.ensures _ _ _ c.try_test-v.ensures.value.0 c.try_test-v.ensures.value.1 c.if-negated-eq1.false; spare_2 = c.try_test-v.ensures.spare_2 }

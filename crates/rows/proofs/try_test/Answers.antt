@@ -28,7 +28,8 @@ pub returns-then-kind-eq1 : goal.returns-then-kind-eq1
 returns-then-kind-eq1 c = record { value = (search method_row, search single_few); spare_2 = c.requires.spare }
 
 pub returns : goal.returns
-returns c = record { value = (
+returns c = record {
+  value = (
     pattern_row _ _
         c.requires.cases
         c.if-kind-eq3.false
@@ -37,4 +38,6 @@ returns c = record { value = (
         c.string_bytes-text.ensures
         c.string_bytes-content.ensures _ c.try_patterns.ensures.value.0,
     search rules,
-  ); spare_2 = c.try_patterns.ensures.spare_2 }
+  );
+  spare_2 = c.try_patterns.ensures.spare_2;
+}

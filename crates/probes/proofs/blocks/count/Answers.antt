@@ -1,6 +1,5 @@
 use borrow.Author.Rules.{rules}
 use mathlib.Core.Path.{◌∙◌}
-use Prim.Native.Nat.{◌-◌}
 use Rattle.probes.proofs.Counting.{counting_first, counting_end, counting_next, line_inside}
 use native.Mathlib.Omega.{arith}
 use Rattle.probes.proofs.blocks.count.Goals as goal

@@ -1,6 +1,5 @@
 use borrow.Author.Rules.{rules}
 use mathlib.Core.Path.{refl}
-use Prim.Native.Nat.{◌-◌}
 use Rattle.probes.proofs.Counting.{came_next, came_found, came_end}
 use Rattle.probes.proofs.blocks.line_end.Goals as goal
 

@@ -1,4 +1,3 @@
-use Prim.Native.Nat.{◌-◌}
 use borrow.Author.Rules.{rules}
 use Rattle.request.proofs.OneField.{name_order, name_inside, value_order, value_inside, value_short, value_room}
 use Rattle.request.proofs.Readings.{places_alone, index_room}

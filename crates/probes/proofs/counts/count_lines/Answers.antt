@@ -1,4 +1,3 @@
-use Prim.Native.Nat.{◌-◌}
 use borrow.Author.Rules.{rules}
 use Rattle.probes.proofs.PartsCounting.{lining_first, lining_end, other_less, lining_other, typed_less, lining_next, lining_room}
 use Rattle.probes.proofs.counts.count_lines.Goals as goal

@@ -1,4 +1,3 @@
-use Prim.Native.Nat.{◌-◌}
 use borrow.Author.Rules.{rules}
 use Rattle.probes.proofs.Pieces.{piecing_first, piece_less, piecing_next, piecing_room, piecing_end}
 use Rattle.probes.proofs.counts.count_pieces.Goals as goal
