@@ -1,5 +1,6 @@
 // Calls for tests and measures alone: patterns on a block of lines, how many parts a request has, and where its head ends.
 #![tactic(auto)]
+
 mod blocks;
 mod counts;
 
