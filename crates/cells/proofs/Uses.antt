@@ -95,10 +95,10 @@ module _ (s : List ℕ) (n : ℕ) (table uses : List ℕ) (k : ℕ) (tb : Table 
 
 -- ---- a field that names a string
 
-pub getD_map_in : {A B : Type 0} (f : A → B) (l : List A) (i : ℕ) (d : A) (e : B) → i < length l → get_or (map f l) i e ≡ f (get_or l i d)
-getD_map_in f [] i d e h = absurd (not-suc-le-zero h)
-getD_map_in f (x ∷ xs) zero d e h = refl
-getD_map_in f (x ∷ xs) (suc i) d e h = getD_map_in f xs i d e (le_of_suc-le-suc h)
+pub get_or_map_in : {A B : Type 0} (f : A → B) (l : List A) (i : ℕ) (d : A) (e : B) → i < length l → get_or (map f l) i e ≡ f (get_or l i d)
+get_or_map_in f [] i d e h = absurd (not-suc-le-zero h)
+get_or_map_in f (x ∷ xs) zero d e h = refl
+get_or_map_in f (x ∷ xs) (suc i) d e h = get_or_map_in f xs i d e (le_of_suc-le-suc h)
 
 module _ (s : List ℕ) (n : ℕ) (table : List ℕ) (tb : Table s n table) where
   pub taken : length (take n table) ≡ n
@@ -108,7 +108,7 @@ module _ (s : List ℕ) (n : ℕ) (table : List ℕ) (tb : Table s n table) wher
   texts_length = length-map (take n table) (text_at s) ∙ taken
 
   pub texts_at : (i : ℕ) → i < n → get_or (texts s n table) i [] ≡ text_at s (get_or table i 0)
-  texts_at i h = getD_map_in (text_at s) (take n table) i 0 [] (omega (arith, taken)) ∙ ap (text_at s) (get_or-take n table i 0 h)
+  texts_at i h = get_or_map_in (text_at s) (take n table) i 0 [] (omega (arith, taken)) ∙ ap (text_at s) (get_or-take n table i 0 h)
 
   module _ (p at : ℕ) where
     pub named_bad : (m q : ℕ) → u16 s at ≡ bad m q → bad m q ≡ named s (texts s n table) p at

@@ -77,7 +77,7 @@ pub fn same_bytes(a: &[u8], b: &[u8]) -> bool
     true
 }
 
-// "in any case" (document 01): never_cut names, `SIP/2.0`.
+// "in any case" (document 01): never-cut names, `SIP/2.0`.
 pub fn same_letters(a: &[u8], b: &[u8]) -> bool
     ensures { result ≡ same_any_case a.now b.now }
 {

@@ -80,8 +80,7 @@ fn count_patterns(
 }
 
 // The pattern is read once for all lines.
-#[unsafe(no_mangle)]
-pub extern "C" fn pattern_lines(pattern: &[u8], fold: u32, block: &[u8], met: &mut u32) -> u32
+pub fn pattern_lines(pattern: &[u8], fold: u32, block: &[u8], met: &mut u32) -> u32
     ensures { LinesTo pattern.now fold block.now result met.new }
 {
     let none = [0u64; 4];
@@ -98,8 +97,7 @@ pub extern "C" fn pattern_lines(pattern: &[u8], fold: u32, block: &[u8], met: &m
 }
 
 // Each line of the block is read as a pattern, all of them into the same places.
-#[unsafe(no_mangle)]
-pub extern "C" fn lines_as_patterns(block: &[u8], fold: u32, text: &[u8], met: &mut u32)
+pub fn lines_as_patterns(block: &[u8], fold: u32, text: &[u8], met: &mut u32)
     ensures { met.new ≡ matching (not (eqb fold 0)) text.now block.now % 4294967296 }
 {
     let none = [0u64; 4];

@@ -4,7 +4,7 @@ use mathlib.Core.Bool.{Bool, true, false, ◌&&◌, true≢false}
 use Prim.Native.Nat.{ℕ, ◌+◌, ◌-◌, ◌≤◌}
 use native.Mathlib.Omega.{arith}
 use mathlib.Core.List.{List, [], ◌∷◌}
-use lib.Dec.{eqb, eqb→eq}
+use lib.Dec.{eqb, eqb→eq, lit<}
 use lib.ListN.{length, get_or, drop}
 use borrow.Author.Tests.{eqb-true}
 use Rattle.octets.specs.Lists.{pick, text}
@@ -14,18 +14,17 @@ use Rattle.grammar.specs.Grammar.{Grammar, option, span, many}
 use Rattle.grammar.specs.Reading.{read_as, wrong, later, better, expect, up_to, read, end, read_text}
 use Rattle.grammar.specs.Inner.Made.{Only, made, forget, shifted}
 use Rattle.scan.specs.Table.{gap, profile_text, initial_filter_criteria, ◌skip◌, ◌close◌}
-use Rattle.scan.specs.Inner.Points.{firsts, starts, nexts, letters, word_at, choices, closing, Closes}
+use Rattle.scan.specs.Inner.Points.{firsts, starts, nexts, letters, word_at, choices, closing, Closes, ClosedAt, NotClosed}
 use Rattle.scan.specs.Inner.Rests.{rest, plainly, rests, pass, told, Ahead, at_end, top}
 use Rattle.scan.specs.Inner.Events.{Event, each_of, of_criterion, events}
-use Rattle.scan.specs.Inner.Turns.{TopAt, NoTop, Top}
 use Rattle.scan.specs.Criteria.{Criterion}
 use Rattle.scan.proofs.Passing.{told_skip, told_close}
 use Rattle.scan.specs.declared.scanner.Close.{Close}
 use Rattle.scan.specs.declared.scanner.Close.TheVariants.{At, Open}
 use Rattle.grammar.proofs.Better.{better_none, none_better, later_better}
-use Rattle.grammar.proofs.Made.{made_read, made_up_to, forget_made}
+use Rattle.grammar.proofs.Made.{made_read, made_better, made_expect, made_up_to, forget_made}
 use Rattle.grammar.proofs.Shifted.{shifted_add, shifted_wrong, made_shifted}
-use Rattle.scan.proofs.Leading.{top_law}
+use Rattle.scan.proofs.PointLaws.{law}
 
 -- ---- the whole text, and the values that it tells
 
@@ -43,11 +42,11 @@ pass_span a b k s = refl
 
 -- from the start: `<?` to its end and then the top, or the top
 abbrev pub from_start : List ℕ → Ahead
-from_start s = better (expect (text "<?") (up_to (text "?>") [] (rest 0)) s) (rest 0 s)
+from_start s = better (expect (text "<?") (up_to (text "?>") [] top) s) (top s)
 
 -- the values that a text tells are those of the criteria that are read from it, in their order
 pub begins_ahead : (s : List ℕ) → made events (read_text profile_text s) ≡ from_start s
-unfolding read_text profile_text rest rests top told
+unfolding read_text profile_text top told
 begins_ahead s =
     made_read events profile_text end s
     ∙ ap (λ (k : List Criterion → List ℕ → Ahead). read profile_text k s) (fun_ext (λ cs. fun_ext (λ u. events_end cs u)))
@@ -57,66 +56,90 @@ begins_ahead s =
 pub tells : (s : List ℕ) (cs : List Criterion) → read_text profile_text s ≡ read_as cs → from_start s ≡ read_as (events cs)
 tells s cs e = sym (begins_ahead s) ∙ ap (made events) e
 
+-- ---- without the values
+
+plain_start : (w c s : List ℕ) → forget (expect w (up_to c [] top) s) ≡ expect w (up_to c [] (plainly 0)) s
+unfolding rest rests
+plain_start w c s =
+    made_expect (λ r. tt) w (up_to c [] top) s
+    ∙ ap (λ (k : List ℕ → Only). expect w k s) (fun_ext (λ u. made_up_to (λ r. tt) c [] top u))
+
+pub begun : (s : List ℕ) → forget (read_text profile_text s) ≡ better (expect (text "<?") (up_to (text "?>") [] (plainly 0)) s) (plainly 0 s)
+unfolding rest rests
+begun s =
+    sym (forget_made events (read_text profile_text s))
+    ∙ ap forget (begins_ahead s)
+    ∙ made_better (λ r. tt) (expect (text "<?") (up_to (text "?>") [] top) s) (top s)
+    ∙ ap (λ (x : Only). better x (plainly 0 s)) (plain_start (text "<?") (text "?>") s)
+
 -- ---- the top behind `<`
 
-abbrev opened : List ℕ → Ahead
-opened t = better (expect (text "!--") (rest 64) t) (expect (text "InitialFilterCriteria>") (rest 1) t)
+abbrev opened : List ℕ → Only
+opened t = better (expect (text "!--") (plainly 64) t) (expect (text "InitialFilterCriteria>") (plainly 1) t)
 
-two_ways : (a b : Ahead) → better (better (later a) (better (later b) (wrong 0))) (wrong 0) ≡ later (better a b)
+two_ways : (a b : Only) → better (better (later a) (better (later b) (wrong 0))) (wrong 0) ≡ later (better a b)
 two_ways a b =
     better_none (better (later a) (better (later b) (wrong 0)))
     ∙ ap (better (later a)) (better_none (later b))
     ∙ sym (later_better a b)
 
-top_open : (t : List ℕ) → rest 0 (60 ∷ t) ≡ later (opened t)
-unfolding choices word_at firsts starts letters nexts first
-top_open t = top_law (60 ∷ t) ∙ two_ways (expect (text "!--") (rest 64) t) (expect (text "InitialFilterCriteria>") (rest 1) t)
+top_open : (t : List ℕ) → (plainly 0) (60 ∷ t) ≡ later (opened t)
+unfolding rest rests choices word_at firsts starts letters nexts first
+top_open t =
+    (law 0 (lit< tt)).leads (60 ∷ t) (λ i. absurd (omega (arith, i)))
+    ∙ two_ways (expect (text "!--") (plainly 64) t) (expect (text "InitialFilterCriteria>") (plainly 1) t)
 
 -- ---- which of the two
 
-with_start : (u : List ℕ) → from_start (60 ∷ 63 ∷ u) ≡ shifted 2 (up_to (text "?>") [] (rest 0) u)
+pub with_start : (u : List ℕ) → better (expect (text "<?") (up_to (text "?>") [] (plainly 0)) (60 ∷ 63 ∷ u)) ((plainly 0) (60 ∷ 63 ∷ u)) ≡ shifted 2 (up_to (text "?>") [] (plainly 0) u)
 with_start u =
-    ap (better (later (later (up_to (text "?>") [] (rest 0) u)))) (top_open (63 ∷ u))
-    ∙ sym (later_better (later (up_to (text "?>") [] (rest 0) u)) (wrong 0))
-    ∙ ap later (better_none (later (up_to (text "?>") [] (rest 0) u)))
+    ap (better (later (later (up_to (text "?>") [] (plainly 0) u)))) (top_open (63 ∷ u))
+    ∙ sym (later_better (later (up_to (text "?>") [] (plainly 0) u)) (wrong 0))
+    ∙ ap later (better_none (later (up_to (text "?>") [] (plainly 0) u)))
 
-without_by : (e : Bool) (x y : Ahead) → e ≡ false → better (later (pick e x (wrong 0))) (later y) ≡ later y
+without_by : (e : Bool) (x y : Only) → e ≡ false → better (later (pick e x (wrong 0))) (later y) ≡ later y
 without_by e x y f = ap (λ (b : Bool). better (later (pick b x (wrong 0))) (later y)) f ∙ sym (later_better (wrong 0) y) ∙ ap later (none_better y)
 
 without_open : (t : List ℕ) → eqb 63 (get_or t 0 0) ≡ false
-    → better (later (expect (text "?") (up_to (text "?>") [] (rest 0)) t)) (rest 0 (60 ∷ t)) ≡ rest 0 (60 ∷ t)
+    → better (later (expect (text "?") (up_to (text "?>") [] (plainly 0)) t)) ((plainly 0) (60 ∷ t)) ≡ (plainly 0) (60 ∷ t)
 without_open [] h =
     ap (better (later (wrong 0))) (top_open []) ∙ without_by false (wrong 0) (opened []) refl ∙ sym (top_open [])
 without_open (c ∷ v) h =
-    ap (better (later (pick (eqb 63 c) (later (up_to (text "?>") [] (rest 0) v)) (wrong 0)))) (top_open (c ∷ v))
-    ∙ without_by (eqb 63 c) (later (up_to (text "?>") [] (rest 0) v)) (opened (c ∷ v)) h
+    ap (better (later (pick (eqb 63 c) (later (up_to (text "?>") [] (plainly 0) v)) (wrong 0)))) (top_open (c ∷ v))
+    ∙ without_by (eqb 63 c) (later (up_to (text "?>") [] (plainly 0) v)) (opened (c ∷ v)) h
     ∙ sym (top_open (c ∷ v))
 
-without_start : (s : List ℕ) → (eqb 60 (get_or s 0 0) && eqb 63 (get_or s 1 0)) ≡ false → from_start s ≡ rest 0 s
-without_start [] h = none_better (rest 0 [])
+pub without_start : (s : List ℕ) → (eqb 60 (get_or s 0 0) && eqb 63 (get_or s 1 0)) ≡ false
+    → better (expect (text "<?") (up_to (text "?>") [] (plainly 0)) s) ((plainly 0) s) ≡ (plainly 0) s
+without_start [] h = none_better ((plainly 0) [])
 without_start (b ∷ t) h =
     test_cases (eqb 60 b)
-    (λ e. ap (λ (x : Bool). better (pick x (later (expect (text "?") (up_to (text "?>") [] (rest 0)) t)) (wrong 0)) (rest 0 (b ∷ t))) e
-    ∙ subst (λ (x : ℕ). better (later (expect (text "?") (up_to (text "?>") [] (rest 0)) t)) (rest 0 (x ∷ t)) ≡ rest 0 (x ∷ t)) (eqb-true 60 b e)
+    (λ e. ap (λ (x : Bool). better (pick x (later (expect (text "?") (up_to (text "?>") [] (plainly 0)) t)) (wrong 0)) ((plainly 0) (b ∷ t))) e
+    ∙ subst (λ (x : ℕ). better (later (expect (text "?") (up_to (text "?>") [] (plainly 0)) t)) ((plainly 0) (x ∷ t)) ≡ (plainly 0) (x ∷ t)) (eqb-true 60 b e)
     (without_open t (sym (ap (λ (x : Bool). x && eqb 63 (get_or t 0 0)) e) ∙ h)))
-    (λ e. ap (λ (x : Bool). better (pick x (later (expect (text "?") (up_to (text "?>") [] (rest 0)) t)) (wrong 0)) (rest 0 (b ∷ t))) e ∙ none_better (rest 0 (b ∷ t)))
+    (λ e. ap (λ (x : Bool). better (pick x (later (expect (text "?") (up_to (text "?>") [] (plainly 0)) t)) (wrong 0)) ((plainly 0) (b ∷ t))) e ∙ none_better ((plainly 0) (b ∷ t)))
 
 -- ---- what the code's answers come to
 
-starts_so : (s : List ℕ) → (eqb 60 (get_or s 0 0) && eqb 63 (get_or s 1 0)) ≡ true → (u : List ℕ) × (s ≡ 60 ∷ 63 ∷ u)
+pub starts_so : (s : List ℕ) → (eqb 60 (get_or s 0 0) && eqb 63 (get_or s 1 0)) ≡ true → (u : List ℕ) × (s ≡ 60 ∷ 63 ∷ u)
 starts_so [] h = absurd (true≢false (sym h))
 starts_so (b ∷ []) h = absurd (right (eqb 60 b) false (T_of h))
 starts_so (b ∷ c ∷ u) h =
     (u, ap₂ (λ (x y : ℕ). x ∷ y ∷ u) (sym (eqb→eq 60 b (left (eqb 60 b) (eqb 63 c) (T_of h)))) (sym (eqb→eq 63 c (right (eqb 60 b) (eqb 63 c) (T_of h)))))
 
-started : (s : List ℕ) → (eqb 60 (get_or s 0 0) && eqb 63 (get_or s 1 0)) ≡ true
-    → made events (read_text profile_text s) ≡ shifted 2 (up_to (text "?>") [] (rest 0) (drop 2 s))
-started s h =
-    let p = starts_so s h in
-    begins_ahead s ∙ subst⁻¹ (λ (x : List ℕ). from_start x ≡ shifted 2 (up_to (text "?>") [] (rest 0) (drop 2 x))) p.1 (with_start p.0)
-
 tests_are : (s : List ℕ) (a b : ℕ) → a ≡ get_or s 0 0 → b ≡ get_or s 1 0 → (t : Bool) → (eqb 60 a && eqb 63 b) ≡ t → (eqb 60 (get_or s 0 0) && eqb 63 (get_or s 1 0)) ≡ t
 tests_are s a b e f t h = ap₂ (λ (x y : ℕ). eqb 60 x && eqb 63 y) (sym e) (sym f) ∙ h
+
+pub start_within : (s : List ℕ) (d : Close) → Closes (closing false) s 2 d → (z : ℕ) → d ≡ At z → z ≤ length s
+start_within s d c z q = let k : ClosedAt (closing false) s 2 z = subst (Closes (closing false) s 2) q c in k.inside
+
+-- an end that is found, or not, without the values
+closed_plain : (w s : List ℕ) (at z : ℕ) → ClosedAt w s at z → up_to w [] (plainly 0) (drop at s) ≡ shifted (z - at) (plainly 0 (drop z s))
+closed_plain w s at z k =
+    sym (made_up_to (λ r. tt) w [] (rest 0) (drop at s)) ∙ ap forget (k.goes (rest 0)) ∙ made_shifted (λ r. tt) (z - at) (rest 0 (drop z s))
+
+open_plain : (w s : List ℕ) (at : ℕ) → NotClosed w s at → up_to w [] (plainly 0) (drop at s) ≡ wrong (length s - at)
+open_plain w s at k = sym (made_up_to (λ r. tt) w [] (rest 0) (drop at s)) ∙ ap forget (k.stops (rest 0))
 
 module _ (s : List ℕ) (a b : ℕ) (e : a ≡ get_or s 0 0) (f : b ≡ get_or s 1 0) where
   pub start_inside : (eqb 60 a && eqb 63 b) ≡ true → 2 ≤ length s
@@ -125,53 +148,29 @@ module _ (s : List ℕ) (a b : ℕ) (e : a ≡ get_or s 0 0) (f : b ≡ get_or s
       let l : length s ≡ length (60 ∷ 63 ∷ p.0) = ap length p.1 in
       omega (arith, l)
 
-  pub top_behind : (eqb 60 a && eqb 63 b) ≡ true → (d : Close) → Closes (closing false) s 2 d → Top s d
-  top_behind h (At z) c = record {
-    inside = c.inside;
-    goes =
-        let n : 2 + (z - 2) ≡ z = omega (arith, c.forward) in
-        started s (tests_are s a b e f true h)
-        ∙ ap (shifted 2) (c.goes (rest 0))
-        ∙ shifted_add 2 (z - 2) (rest 0 (drop z s))
-        ∙ ap (λ (m : ℕ). shifted m (rest 0 (drop z s))) n;
-  }
-  top_behind h Open c = record {
-    stops =
-        let l : 2 ≤ length s = start_inside h in
-        let n : 2 + (length s - 2) ≡ length s = omega (arith, l) in
-        started s (tests_are s a b e f true h) ∙ ap (shifted 2) (c.stops (rest 0)) ∙ shifted_wrong 2 (length s - 2) ∙ ap wrong n;
-  }
+  started : (eqb 60 a && eqb 63 b) ≡ true → forget (read_text profile_text s) ≡ shifted 2 (up_to (text "?>") [] (plainly 0) (drop 2 s))
+  started h =
+      let p = starts_so s (tests_are s a b e f true h) in
+      begun s
+      ∙ subst⁻¹ (λ (x : List ℕ). better (expect (text "<?") (up_to (text "?>") [] (plainly 0)) x) ((plainly 0) x) ≡ shifted 2 (up_to (text "?>") [] (plainly 0) (drop 2 x))) p.1 (with_start p.0)
 
-  pub top_first : (eqb 60 a && eqb 63 b) ≡ false → TopAt s 0
-  top_first h = record { inside = omega arith; goes = begins_ahead s ∙ without_start s (tests_are s a b e f false h) }
+  pub start_closed : (eqb 60 a && eqb 63 b) ≡ true → (d : Close) → Closes (closing false) s 2 d → (z : ℕ) → d ≡ At z → (r : Only)
+      → r ≡ shifted z (plainly 0 (drop z s)) → r ≡ forget (read_text profile_text s)
+  start_closed h d c z q r g =
+      let k : ClosedAt (closing false) s 2 z = subst (Closes (closing false) s 2) q c in
+      let n : 2 + (z - 2) ≡ z = omega (arith, k.forward) in
+      g
+      ∙ sym (started h
+      ∙ ap (shifted 2) (closed_plain (text "?>") s 2 z k)
+      ∙ shifted_add 2 (z - 2) ((plainly 0) (drop z s))
+      ∙ ap (λ (m : ℕ). shifted m ((plainly 0) (drop z s))) n)
 
--- ---- without the values
+  pub start_open : (eqb 60 a && eqb 63 b) ≡ true → (d : Close) → Closes (closing false) s 2 d → d ≡ Open → wrong (length s) ≡ forget (read_text profile_text s)
+  start_open h d c q =
+      let k : NotClosed (closing false) s 2 = subst (Closes (closing false) s 2) q c in
+      let l : 2 ≤ length s = start_inside h in
+      let n : 2 + (length s - 2) ≡ length s = omega (arith, l) in
+      sym (started h ∙ ap (shifted 2) (open_plain (text "?>") s 2 k) ∙ shifted_wrong 2 (length s - 2) ∙ ap wrong n)
 
-plain_text : (s : List ℕ) (x : Ahead) → made events (read_text profile_text s) ≡ x → forget (read_text profile_text s) ≡ forget x
-plain_text s x e = sym (forget_made events (read_text profile_text s)) ∙ ap forget e
-
-pub plain_started : (s : List ℕ) → (eqb 60 (get_or s 0 0) && eqb 63 (get_or s 1 0)) ≡ true
-    → forget (read_text profile_text s) ≡ shifted 2 (up_to (text "?>") [] (plainly 0) (drop 2 s))
-plain_started s h =
-    plain_text s (shifted 2 (up_to (text "?>") [] (rest 0) (drop 2 s))) (started s h)
-    ∙ made_shifted (λ r. tt) 2 (up_to (text "?>") [] (rest 0) (drop 2 s))
-    ∙ ap (shifted 2) (made_up_to (λ r. tt) (text "?>") [] (rest 0) (drop 2 s))
-
-pub plain_first : (s : List ℕ) → (eqb 60 (get_or s 0 0) && eqb 63 (get_or s 1 0)) ≡ false → forget (read_text profile_text s) ≡ plainly 0 s
-plain_first s h = plain_text s (rest 0 s) (begins_ahead s ∙ without_start s h)
-
-module _ (s : List ℕ) (d : Close) (c : Top s d) where
-  top_at : (z : ℕ) → d ≡ At z → TopAt s z
-  top_at z q = subst (Top s) q c
-
-  pub top_within : (z : ℕ) → d ≡ At z → z ≤ length s
-  top_within z q = (top_at z q).inside
-
-  pub text_from : (z : ℕ) → d ≡ At z → (r : Only) → r ≡ shifted z (plainly 0 (drop z s)) → r ≡ forget (read_text profile_text s)
-  text_from z q r g =
-      g ∙ sym (plain_text s (shifted z (rest 0 (drop z s))) (top_at z q).goes ∙ made_shifted (λ r. tt) z (rest 0 (drop z s)))
-
-  pub text_open : d ≡ Open → wrong (length s) ≡ forget (read_text profile_text s)
-  text_open q =
-      let n : NoTop s = subst (Top s) q c in
-      sym (plain_text s (wrong (length s)) n.stops)
+  pub no_start : (eqb 60 a && eqb 63 b) ≡ false → (r : Only) → r ≡ shifted 0 (plainly 0 (drop 0 s)) → r ≡ forget (read_text profile_text s)
+  no_start h r g = g ∙ sym (begun s ∙ without_start s (tests_are s a b e f false h))

@@ -12,7 +12,7 @@ use borrow.Author.Tests.{eqb-true, eqb-false, ltb-true, ltb-false}
 use Rattle.octets.specs.Lists.{pick, text}
 use Rattle.octets.proofs.Tests.{test_cases}
 use Rattle.scan.specs.Criteria.{Criterion}
-use Rattle.grammar.specs.Reading.{Read, read_as, wrong, twice, better, larger, up_to, read_text}
+use Rattle.grammar.specs.Reading.{Read, read_as, wrong, twice, better, larger, expect, up_to, read_text}
 use Rattle.grammar.specs.Inner.Made.{Only, forget}
 use Rattle.scan.specs.Table.{digit, profile_text}
 use Rattle.scan.specs.Inner.Points.{starts, nexts, word_at, common, choices, first_word, word_count, kind_of}
@@ -26,7 +26,7 @@ use Rattle.scan.proofs.Choosing.{Point, point, chosen}
 use Rattle.scan.proofs.Leading.{behind, passed, none_at_end}
 use Rattle.scan.proofs.PointLaws.{law}
 use Rattle.scan.proofs.Turning.{next_point, next_comment, rest_comment}
-use Rattle.scan.proofs.Starting.{plain_started, plain_first}
+use Rattle.scan.proofs.Starting.{begun, with_start, without_start, starts_so}
 
 -- ---- words
 
@@ -89,7 +89,7 @@ words_once n q h f t l =
     (decide t (first_word q) (word_count q))
 
 top_once : (n : ℕ) → Shorter n → (t : List ℕ) → length t ≤ n → Once (better (by_words 0 t) (forget (at_end t)))
-top_once n f [] l = subst⁻¹ (λ (x : Only). Once (better x (read_as tt))) (none_at_end plainly 0 (lit< tt)) tt
+top_once n f [] l = subst⁻¹ (λ (x : Only). Once (better x (read_as tt))) (none_at_end 0 (lit< tt)) tt
 top_once n f (b ∷ t) l = subst⁻¹ Once (better_none (by_words 0 (b ∷ t))) (words_once n 0 (lit< tt) f (b ∷ t) l)
 
 behind_once : (n q : ℕ) → q < 42 → Shorter n → (t : List ℕ) → length t ≤ n → Once (behind q t)
@@ -123,11 +123,13 @@ from_top s = (points_once (suc (length s)) 0 (lit< tt) s (omega arith))
 
 pub text_once : (s : List ℕ) → Once (forget (read_text profile_text s))
 text_once s =
-    test_cases (eqb 60 (get_or s 0 0) && eqb 63 (get_or s 1 0))
-    (λ e. subst⁻¹ Once (plain_started s e)
-    (once_shifted 2 (up_to (text "?>") [] (plainly 0) (drop 2 s))
-    (once_up_to (text "?>") [] (plainly 0) (length (drop 2 s)) (λ v k. from_top v) (drop 2 s) (omega arith))))
-    (λ e. subst⁻¹ Once (plain_first s e) (from_top s))
+    subst⁻¹ Once (begun s)
+    (test_cases (eqb 60 (get_or s 0 0) && eqb 63 (get_or s 1 0))
+    (λ e. let p = starts_so s e in
+    subst⁻¹ (λ (x : List ℕ). Once (better (expect (text "<?") (up_to (text "?>") [] (plainly 0)) x) ((plainly 0) x))) p.1
+    (subst⁻¹ Once (with_start p.0)
+    (once_shifted 2 (up_to (text "?>") [] (plainly 0) p.0) (once_up_to (text "?>") [] (plainly 0) (length p.0) (λ v k. from_top v) p.0 (omega arith)))))
+    (λ e. subst⁻¹ Once (without_start s e) (from_top s)))
 
 pub never_twice : (s : List ℕ) → read_text profile_text s ≡ twice → ⊥
 never_twice s e = subst (λ (x : Read (List Criterion)). Once (forget x)) e (text_once s)

@@ -3,8 +3,8 @@ ghost use Rattle.std.specs.Prelude.{◌≡◌, ◌+◌, ◌≤◌, ◌<◌, leng
 ghost use Rattle.grammar.specs.Reading.{larger, read_text};
 ghost use Rattle.grammar.specs.Inner.Made.{forget, shifted};
 ghost use Rattle.scan.specs.Table.{digit, profile_text};
-ghost use Rattle.scan.specs.Inner.Rests.{rest, plainly};
-ghost use Rattle.scan.specs.Inner.Turns.{Turns, TurnsAhead, words_ahead, scan_out, Top};
+ghost use Rattle.scan.specs.Inner.Rests.{plainly};
+ghost use Rattle.scan.specs.Inner.Turns.{Turns, TurnsAhead, words_ahead, scan_out};
 ghost use Rattle.scan.specs.Inner.Points.{word_at, common, class_of, run, kind_of, Chose, ends_by, closing, Closes, Found};
 
 use crate::points::{first_of, letter, next_of, start_of};
@@ -146,6 +146,19 @@ pub enum Turn {
     Wrong(usize),
 }
 
+// Which bytes point q passes over.
+fn kind_of(q: usize) -> usize
+    ensures { result ≡ kind_of q }
+{
+    if q < 25 {
+        return 0;
+    }
+    if q < 34 {
+        return 1;
+    }
+    2
+}
+
 // Behind word j of point q, and behind the comment where it begins one.
 fn behind_word(s: &[u8], at: usize, q: usize, j: usize) -> Turn
     requires { (at ≤ length s.now) × (q < 42) × (j < 123) × Found q (drop at s.now) j }
@@ -177,12 +190,12 @@ fn word_turn(s: &[u8], at: usize, q: usize) -> Turn
     }
 }
 
-// From a point between tags, over blanks and on by its words; at the top the text may end.
-pub fn gap_turn(s: &[u8], at: usize, q: usize) -> Turn
-    requires { (at ≤ length s.now) × (q < 25) }
-    ensures { TurnsAhead (rest q) s.now at result }
+// From point q, of the kind given, over what it passes over and on by its words.
+fn lead(s: &[u8], at: usize, q: usize, kind: usize) -> Turn
+    requires { (at ≤ length s.now) × (q < 42) × (kind ≡ kind_of q) × (kind ≡ 1 → digit (get_or s.now at 0) ≡ true) }
+    ensures { Turns (plainly q) s.now at result }
 {
-    let e = run_end(s, at, 0);
+    let e = run_end(s, at, kind);
     if q == 0 {
         if e == s.len() {
             return Turn::Whole;
@@ -192,31 +205,20 @@ pub fn gap_turn(s: &[u8], at: usize, q: usize) -> Turn
     word_turn(s, e, q)
 }
 
-// From a point in a value, of the kind given, over bytes of that kind and on by its words.
-fn value_turn(s: &[u8], at: usize, q: usize, kind: usize) -> Turn
-    requires { (at ≤ length s.now) × (25 ≤ q) × (q < 42) × (kind ≡ kind_of q) × (kind ≡ 1 → digit (get_or s.now at 0) ≡ true) }
-    ensures { Turns (plainly q) s.now at result }
-{
-    let e = run_end(s, at, kind);
-    word_turn(s, e, q)
-}
-
 // From one point of the text to the next.
 fn pass_point(s: &[u8], at: usize, q: usize) -> Turn
     requires { (at ≤ length s.now) × (q < 42) }
     ensures { Turns (plainly q) s.now at result }
 {
-    if q < 25 {
-        return gap_turn(s, at, q);
-    }
-    if q < 34 {
+    let kind = kind_of(q);
+    if kind == 1 {
         let b = byte_at(s, at);
         if in_class(1, b) {
-            return value_turn(s, at, q, 1);
+            return lead(s, at, q, kind);
         }
         return Turn::Wrong(at);
     }
-    value_turn(s, at, q, 2)
+    lead(s, at, q, kind)
 }
 
 // Whether a text is one of the subset, or where it goes wrong.
@@ -250,25 +252,22 @@ fn scan_from(s: &[u8], from: usize) -> Scan
     }
 }
 
-// Where the top of the text begins: behind "one `<?` to its `?>` at byte 0", or at once.
-pub fn top_of(s: &[u8]) -> Close
-    ensures { Top s.now result }
+// The whole text: "one `<?` to its `?>` at byte 0", and then from the top.
+pub fn scan_text(s: &[u8]) -> Scan
+    ensures { scan_out result ≡ forget (read_text profile_text s.now) }
 {
     let a = byte_at(s, 0);
     let b = byte_at(s, 1);
     if (60 == a) & (63 == b) {
-        return end_of(s, 2, false);
+        let d = end_of(s, 2, false);
+        match d {
+            Close::At(e) => {
+                return scan_from(s, e);
+            }
+            Close::Open => {
+                return Scan::Wrong(s.len());
+            }
+        }
     }
-    Close::At(0)
-}
-
-// The whole text.
-pub fn scan_text(s: &[u8]) -> Scan
-    ensures { scan_out result ≡ forget (read_text profile_text s.now) }
-{
-    let d = top_of(s);
-    match d {
-        Close::At(e) => scan_from(s, e),
-        Close::Open => Scan::Wrong(s.len()),
-    }
+    scan_from(s, 0)
 }

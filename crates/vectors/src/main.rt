@@ -8,7 +8,6 @@ ghost use Rattle.std.specs.Prelude.{◌≡◌, ℕ, ◌<◌, ◌≤◌, true, le
 use octets::{byte_at, from_byte, same_bytes};
 use rows::Given;
 use session::Session;
-use std::alloc::{AllocError, Global};
 use std::io::Read;
 use std::num::{wrapping_add_u32, wrapping_add_usize as on};
 use std::rt::Files;
@@ -382,12 +381,12 @@ fn run_first(rt: &impl Print, cases: &[u8], n: usize, answers: &[u8], m: usize) 
 }
 
 // Some more room than the files have, since a file that fills its room may go on.
-fn room_for_cases(alloc: Global) -> Result<Vec<u8>, AllocError> {
-    vec![in alloc; 0; 1000000]
+fn room_for_cases() -> [u8; 1000000] {
+    [0; 1000000]
 }
 
-fn room_for_answers(alloc: Global) -> Result<Vec<u8>, AllocError> {
-    vec![in alloc; 0; 200000]
+fn room_for_answers() -> [u8; 200000] {
+    [0; 200000]
 }
 
 // Reads a file until the room is full or the file ends, and tells how many bytes it put at the start of the room.
@@ -407,8 +406,8 @@ fn read(rt: &impl Files, name: &str, into: &mut [u8]) -> io::Result<usize>
 }
 
 fn main(rt: HostRuntime) -> io::Result<()> {
-    let mut cases = room_for_cases(rt.alloc())?;
-    let mut answers = room_for_answers(rt.alloc())?;
+    let mut cases = room_for_cases();
+    let mut answers = room_for_answers();
     let n = read(&rt, "cases", &mut cases)?;
     let m = read(&rt, "answers", &mut answers)?;
     run_first(&rt, &cases, n, &answers, m)

@@ -1,13 +1,9 @@
 -- What the scanner's code answers, point by point.
 use Rattle.std.specs.Prelude.{◌≡◌, ℕ, ◌-◌, ◌≤◌, ◌<◌, List, [], length, drop}
-use Rattle.grammar.specs.Reading.{Read, read_as, wrong, read_text}
-use Rattle.grammar.specs.Inner.Made.{Only, made, shifted}
-use Rattle.scan.specs.Table.{profile_text}
-use Rattle.scan.specs.Inner.Events.{events}
+use Rattle.grammar.specs.Reading.{Read, read_as, wrong}
+use Rattle.grammar.specs.Inner.Made.{Only, shifted}
 use Rattle.scan.specs.Inner.Points.{choices, first_word, word_count}
 use Rattle.scan.specs.Inner.Rests.{Ahead, rest, plainly}
-use Rattle.scan.specs.declared.scanner.Close.{Close}
-use Rattle.scan.specs.declared.scanner.Close.TheVariants.{At, Open}
 use Rattle.scan.specs.declared.scanner.Scan.{Scan}
 use Rattle.scan.specs.declared.scanner.Turn.{Turn}
 use Rattle.scan.specs.declared.scanner.Turn.TheVariants.{Next, Whole, Wrong}
@@ -43,19 +39,6 @@ TurnsAhead way s at t = Turning [] rest way s at t
 abbrev pub scan_out : Scan → Only
 scan_out Scan.Whole = read_as tt
 scan_out (Scan.Wrong n) = wrong n
-
--- the text's top begins at e: the values that it tells are those to come from there
-pub record TopAt (s : List ℕ) (e : ℕ) : Type 0 where
-  pub inside : e ≤ length s
-  pub goes : made events (read_text profile_text s) ≡ shifted e (rest 0 (drop e s))
-
--- it has no top, since its `<?` does not end
-pub record NoTop (s : List ℕ) : Type 0 where
-  pub stops : made events (read_text profile_text s) ≡ wrong (length s)
-
-abbrev pub Top : List ℕ → Close → Type 0
-Top s (At e) = TopAt s e
-Top s Open = NoTop s
 
 -- by the words of point q
 abbrev pub by_words : ℕ → List ℕ → Only

@@ -1,17 +1,12 @@
-use native.Mathlib.Omega.{arith}
-use Rattle.scan.proofs.Runs.{kind_number, kind_string}
-use Rattle.scan.proofs.Scanning.{plain_turn, first_digit, not_digit}
+use Rattle.scan.proofs.Scanning.{first_digit, not_digit}
 use borrow.Author.Rules.{rules}
 use Rattle.scan.proofs.scanner.pass_point.Goals as goal
 
-pub returns-then-q-lt25 : goal.returns-then-q-lt25
-returns-then-q-lt25 c = search plain_turn
+pub lead-requires : goal.lead-requires
+lead-requires c = (search rules, search rules, search rules, λ i. search first_digit)
 
-pub value_turn-requires : goal.value_turn-requires
-value_turn-requires c = (search rules, search rules, search rules, search kind_number, λ i. search first_digit)
+pub returns-then-kind-eq1 : goal.returns-then-kind-eq1
+returns-then-kind-eq1 c = search not_digit
 
-pub returns-then-q-lt34 : goal.returns-then-q-lt34
-returns-then-q-lt34 c = search not_digit
-
-pub value_turn-requires-2 : goal.value_turn-requires-2
-value_turn-requires-2 c = (search rules, search rules, search rules, search kind_string, λ i. absurd (omega (arith, i)))
+pub lead-requires-2 : goal.lead-requires-2
+lead-requires-2 c = (search rules, search rules, search rules, λ i. absurd (c.if-kind-eq1.false i))
