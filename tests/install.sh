@@ -28,7 +28,7 @@ install() {
 
 install DESTDIR= PREFIX="$out/usr"
 again=$(make -n install) || fail "make -n install failed"
-if echo "$again" | grep -q '^rt '; then fail "a second make install proves again"; fi
+if echo "$again" | grep -q 'rt lib'; then fail "a second make install proves again"; fi
 if command -v pkg-config >/dev/null 2>&1; then
     PKG_CONFIG_PATH=$(dirname "$pc")
     export PKG_CONFIG_PATH
