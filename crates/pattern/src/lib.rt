@@ -8,8 +8,10 @@ ghost use Rattle.pattern.specs.Inner.Prepared.{Ready};
 
 mod edition1;
 mod fold;
+mod prepared;
 
 pub use crate::edition1::{is_loaded, load};
+pub use crate::prepared::{PatternPlaces, Prepared};
 use machine::{Shape, found, leftmost};
 
 // The smallest place at which a part of the text that fits the prepared pattern begins, or one above the text's length.

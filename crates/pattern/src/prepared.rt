@@ -1,0 +1,49 @@
+// A pattern that was made ready for many texts.
+ghost use Rattle.std.specs.Prelude.{◌≡◌, length};
+ghost use Rattle.pattern.specs.Inner.Answers.{meets_text};
+ghost use Rattle.pattern.specs.Inner.Prepared.{Ready};
+
+use crate::{load, test};
+use machine::Shape;
+
+// Its bytes, whether it is for names, and what `load` made of them, with the sets and masks beside.
+#[derive(Clone, Copy)]
+pub struct Prepared<'a> {
+    pub bytes: &'a [u8],
+    pub for_names: bool,
+    pub shape: Shape,
+    pub sets: &'a [[u64; 4]; 60],
+    pub before: &'a [u64; 60],
+    pub ghost ready: { ∥ Ready for_names bytes.now shape sets.now before.now ∥₁ },
+}
+
+impl<'a> Prepared<'a> {
+    // Whether it matches a text.
+    pub fn meets(&self, text: &[u8]) -> bool
+        ensures { result ≡ meets_text self.now.for_names self.now.bytes.now text.now }
+    {
+        test(self.shape, self.sets, self.before, text)
+    }
+}
+
+// Places for the sets and masks of one pattern after the other.
+pub struct PatternPlaces {
+    pub sets: [[u64; 4]; 60],
+    pub before: [u64; 60],
+}
+
+impl PatternPlaces {
+    // Makes a pattern ready here. What stood here before means nothing, nor what stands here where the bytes are no pattern.
+    pub fn prepare<'a>(&'a mut self, bytes: &'a [u8], for_names: bool) -> Prepared<'a>
+        ensures { (result.bytes.now ≡ bytes.now) × (result.for_names ≡ for_names) }
+    {
+        let shape = load(bytes, for_names, &mut self.sets, &mut self.before);
+        Prepared {
+            bytes,
+            for_names,
+            shape,
+            sets: &self.sets,
+            before: &self.before,
+        }
+    }
+}
