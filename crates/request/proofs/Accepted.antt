@@ -1,4 +1,7 @@
 -- What a request is that was judged readable: its parts by the places found.
+use Rattle.std.proofs.lemmas.Option.{same_Some}
+use Rattle.std.specs.Prelude.{Option as Answer, None}
+use Rattle.request.specs.declared.HeadPlaces.{HeadPlaces}
 use mathlib.Core.Bool.{Bool, true, false}
 use mathlib.Core.Option.{Option, none, some, some-injective}
 use mathlib.Core.Path.{◌≡◌, refl, sym, ap, ◌∙◌, subst}
@@ -20,10 +23,7 @@ use Rattle.cuts.proofs.Parts.{part_front, length_part}
 use Rattle.cuts.proofs.Search.{first_le, first_holds, begins_long}
 use Rattle.request.specs.Inner.Places.{head_of, field_lines, fields_start, later_lines}
 use Rattle.request.specs.Request.{Field, Request, Start, head_byte, paired, head_lines, whole_fields, start_line, all_fields, read_head, empty_line, read_request, bytes_right, parts_right}
-use Rattle.request.specs.Inner.Steps.{start_places, lines_from, judged}
-use Rattle.request.specs.declared.Judged.{Judged}
-use Rattle.request.specs.declared.Judged.TheVariants.{Refused, Accepted}
-use Rattle.request.specs.declared.start_lines.StartLine.TheVariants.{Bad}
+use Rattle.request.specs.Inner.Steps.{head_at, start_places, lines_from, judged}
 use Rattle.request.proofs.Head.{Pairs, pairs, pairs_paired}
 use Rattle.request.proofs.Judging.{Starts, starts, cr, built, head_built, judge_long, judge_endless, judge_bytes, read_by_test, head_is_front}
 use Rattle.request.proofs.Ends.{head_end}
@@ -52,7 +52,7 @@ starts_at l m u t mu ul e = subst (StartsAt l) e (record {
     end_u : length (take m l) + 1 + length (part l (m + 1) u) ≡ u
     end_u = omega (arith, long_m, long_u)
 
-not_bad : (o : Option Start) (t : Start) → o ≡ some t → Bad ≡ start_places o → ⊥
+not_bad : (o : Option Start) (t : Start) → o ≡ some t → None ≡ start_places o → ⊥
 not_bad none t e b = let z : ◌≡◌ {A = ℕ} 0 1 = cc in omega arith
 not_bad (some x) t e b = let z : ◌≡◌ {A = ℕ} 0 1 = cc in omega arith
 
@@ -93,7 +93,7 @@ record Built (h body : List ℕ) (o : Option Start) (folds : Bool) (fs : Option 
   f_is : fields_start h ≡ f
 
 built_from : (h body : List ℕ) (o : Option Start) (folds : Bool) (fs : Option (List Field)) (e m u f : ℕ)
-    → Accepted e m u f ≡ judged h (built body o folds fs) → Built h body o folds fs e m u f
+    → head_at e m u f ≡ judged h (built body o folds fs) → Built h body o folds fs e m u f
 built_from h body none folds fs e m u f q = let z : ◌≡◌ {A = ℕ} 0 1 = cc in absurd (omega arith)
 built_from h body (some t) true fs e m u f q = let z : ◌≡◌ {A = ℕ} 0 1 = cc in absurd (omega arith)
 built_from h body (some t) false none e m u f q = let z : ◌≡◌ {A = ℕ} 0 1 = cc in absurd (omega arith)
@@ -103,10 +103,10 @@ built_from h body (some t) false (some l) e m u f q = record {
   list = l;
   list_is = refl;
   no_fold = refl;
-  e_is = cc;
-  m_is = cc;
-  u_is = cc;
-  f_is = cc;
+  e_is = sym (ap (λ (p : HeadPlaces). p.head) (same_Some _ _ q));
+  m_is = sym (ap (λ (p : HeadPlaces). p.method) (same_Some _ _ q));
+  u_is = sym (ap (λ (p : HeadPlaces). p.uri) (same_Some _ _ q));
+  f_is = sym (ap (λ (p : HeadPlaces). p.fields) (same_Some _ _ q));
 }
 
 -- ---- the request
@@ -129,12 +129,12 @@ pub record Accepts (s : List ℕ) (e m u f : ℕ) : Type 0 where
   pub lines_are : field_lines (take e s) ≡ lines_from (take e s) f
   pub fields_are : all_fields (lines_from (take e s) f) ≡ some request.fields
 
-refused_not : (j : Judged) (e m u f : ℕ) → Accepted e m u f ≡ j → Refused ≡ j → ⊥
+refused_not : (j : Answer HeadPlaces) (e m u f : ℕ) → head_at e m u f ≡ j → None ≡ j → ⊥
 refused_not j e m u f a r = let z : ◌≡◌ {A = ℕ} 0 1 = cc in omega arith
 
 -- the head h has right bytes, and the body follows it
 module _ (s : List ℕ) (e₀ : ℕ) (short : length s ≤ 65535) (inside : e₀ + 4 ≤ length s) (front : head_of s ≡ take e₀ s) (right_pairs : T (paired 0 (take e₀ s)))
-    (reads : read_request s ≡ read_head (head_lines (take e₀ s)) (drop (e₀ + 4) s)) (e m u f : ℕ) (q : Accepted e m u f ≡ judged (head_of s) (read_request s)) where
+    (reads : read_request s ≡ read_head (head_lines (take e₀ s)) (drop (e₀ + 4) s)) (e m u f : ℕ) (q : head_at e m u f ≡ judged (head_of s) (read_request s)) where
   abbrev h : List ℕ
   h = take e₀ s
 
@@ -211,7 +211,7 @@ module _ (s : List ℕ) (e₀ : ℕ) (short : length s ≤ 65535) (inside : e₀
   }
 
 -- what is known of a request that was judged readable
-pub accepts : (s : List ℕ) (e m u f : ℕ) → Accepted e m u f ≡ judged (head_of s) (read_request s) → Accepts s e m u f
+pub accepts : (s : List ℕ) (e m u f : ℕ) → head_at e m u f ≡ judged (head_of s) (read_request s) → Accepts s e m u f
 accepts s e m u f q =
     let e₀ = length (head_of s) in
     let not_so = refused_not (judged (head_of s) (read_request s)) e m u f q in

@@ -1,4 +1,7 @@
 -- What `read` answers and leaves in the lent places.
+use Rattle.std.specs.Prelude.{Option as Answer, Some, None}
+use Rattle.request.specs.declared.HeadPlaces.{HeadPlaces}
+use Rattle.request.specs.declared.Places.{Places}
 use mathlib.Core.Option.{Option, none, some, some-injective}
 use mathlib.Core.Path.{◌≡◌, refl, sym, ap, ◌∙◌, subst}
 use mathlib.Core.List.{List, [], ◌∷◌, ◌++◌}
@@ -13,10 +16,7 @@ use Rattle.cuts.specs.Inner.Parts.{over}
 use Rattle.cuts.proofs.Parts.{length_part}
 use Rattle.request.specs.Inner.Places.{head_of, field_lines, fields_start, line_starts, line_colons, lines_start, reading, starts_of, colons_of, Read, Rooms, or_blank, request_of}
 use Rattle.request.specs.Request.{Field, Request, field, all_fields, read_request}
-use Rattle.request.specs.Inner.Steps.{is_some, lines_from, judged, Fillable, Filled}
-use Rattle.request.specs.declared.Judged.{Judged}
-use Rattle.request.specs.declared.Judged.TheVariants.{Refused, Accepted}
-use Rattle.request.specs.declared.Reading.TheVariants.{Unreadable, Readable}
+use Rattle.request.specs.Inner.Steps.{head_at, is_some, lines_from, judged, Fillable, Filled}
 use Rattle.request.proofs.Accepted.{Accepts, accepts}
 use Rattle.request.proofs.Judging.{all_fields_some}
 
@@ -46,21 +46,21 @@ colons_length at (l ∷ ls) = ap suc (colons_length (at + length l + 2) ls)
 
 -- ---- the two answers
 
-refused_none : (h : List ℕ) (o : Option Request) → Refused ≡ judged h o → o ≡ none
+refused_none : (h : List ℕ) (o : Option Request) → None ≡ judged h o → o ≡ none
 refused_none h none e = refl
 refused_none h (some q) e = let z : ◌≡◌ {A = ℕ} 0 1 = cc in absurd (omega arith)
 
-module _ (s starts colons : List ℕ) (j : Judged) (ej : j ≡ judged (head_of s) (read_request s)) where
-  pub read_refused : j ≡ Refused → Read s starts colons starts colons Unreadable
-  read_refused e =
+module _ (s starts colons : List ℕ) (j : Answer HeadPlaces) (ej : j ≡ judged (head_of s) (read_request s)) where
+  pub read_refused : j ≡ None → (r : Answer Places) → r ≡ None → Read s starts colons starts colons r
+  read_refused e r er =
       let nothing : read_request s ≡ none = refused_none (head_of s) (read_request s) (sym e ∙ ej) in
       record {
-        answer = sym (ap (reading (head_of s)) nothing);
+        answer = er ∙ sym (ap (reading (head_of s)) nothing);
         starts_are = sym (ap (λ (o : Option Request). over (starts_of (head_of s) o) starts) nothing);
         colons_are = sym (ap (λ (o : Option Request). over (colons_of (head_of s) o) colons) nothing);
       }
 
-  module _ (e m u f : ℕ) (ea : j ≡ Accepted e m u f) where
+  module _ (e m u f : ℕ) (ea : j ≡ head_at e m u f) where
     a : Accepts s e m u f
     a = accepts s e m u f (sym ea ∙ ej)
 
@@ -92,7 +92,7 @@ module _ (s starts colons : List ℕ) (j : Judged) (ej : j ≡ judged (head_of s
 
     pub read_accepted : (starts' colons' : List ℕ) (n : ℕ) → Filled (take (e - 0) (drop 0 s)) f starts colons starts' colons' n
         → (lines : ℕ) → lines ≡ lines_start (head_of s) (request_of s)
-        → Read s starts colons starts' colons' (Readable (record { method = m; uri = u; head = e; fields = n; lines = lines }))
+        → Read s starts colons starts' colons' (Some (record { method = m; uri = u; head = e; fields = n; lines = lines }))
     read_accepted starts' colons' n filled lines lines_is =
         let k : Filled (take e s) f starts colons starts' colons' n = subst (λ (h : List ℕ). Filled h f starts colons starts' colons' n) front_is filled in
         let ls = lines_from (take e s) f in
@@ -108,7 +108,7 @@ module _ (s starts colons : List ℕ) (j : Judged) (ej : j ≡ judged (head_of s
         let start : fields_start (head_of s) ≡ f = ap fields_start a.head_is ∙ sym a.start_is in
         record {
           answer =
-              sym (ap (reading (head_of s)) a.read ∙ (λ i. Readable (record { method = m_is i; uri = u_is i; head = h_is i; fields = n_is i; lines = lines_so i })));
+              sym (ap (reading (head_of s)) a.read ∙ (λ i. Some (record { method = m_is i; uri = u_is i; head = h_is i; fields = n_is i; lines = lines_so i })));
           starts_are =
               k.starts_are ∙ ap (λ (i : ℕ). line_starts f ls ++ drop i starts) (k.count ∙ sym (starts_length f ls))
               ∙ sym (ap (λ (o : Option Request). over (starts_of (head_of s) o) starts) a.read ∙ (λ i. over (line_starts (start i) (fields_are i)) starts));
@@ -119,9 +119,9 @@ module _ (s starts colons : List ℕ) (j : Judged) (ej : j ≡ judged (head_of s
 
 -- ---- for callers: an unreadable request is none
 
-unread : (h : List ℕ) (o : Option Request) → Unreadable ≡ reading h o → o ≡ none
+unread : (h : List ℕ) (o : Option Request) → None ≡ reading h o → o ≡ none
 unread h none e = refl
 unread h (some q) e = let z : ◌≡◌ {A = ℕ} 0 1 = cc in absurd (omega arith)
 
-pub read_none : (s starts colons starts' colons' : List ℕ) → Read s starts colons starts' colons' Unreadable → read_request s ≡ none
+pub read_none : (s starts colons starts' colons' : List ℕ) → Read s starts colons starts' colons' None → read_request s ≡ none
 read_none s starts colons starts' colons' k = unread (head_of s) (read_request s) k.answer

@@ -1,4 +1,6 @@
 -- One field of a request, from the lent places.
+use Rattle.std.specs.Prelude.{Option as Answer, Some}
+use Rattle.request.specs.declared.HeadPlaces.{HeadPlaces}
 use mathlib.Core.Bool.{true, not}
 use mathlib.Core.Option.{Option, none, some, some-injective}
 use mathlib.Core.Path.{◌≡◌, refl, sym, ap, ◌∙◌, subst}
@@ -25,12 +27,9 @@ use Rattle.contents.specs.Names.{name_as_matched}
 use Rattle.contents.specs.Values.{reduced, values_of}
 use Rattle.request.specs.Inner.Places.{head_of, field_lines, fields_start, line_starts, colon_in, line_colons, reading, starts_of, colons_of, lines_start, places_of, Read, Placed, Fielded, request_of, parts_of, field_parts}
 use Rattle.request.specs.Request.{Field, Request, paired, read_request}
-use Rattle.request.specs.Inner.Steps.{line_break, lines_from, judged, Filled}
+use Rattle.request.specs.Inner.Steps.{head_at, line_break, lines_from, judged, Filled}
 use Rattle.request.specs.declared.FieldParts.{FieldParts}
-use Rattle.request.specs.declared.Judged.{Judged}
-use Rattle.request.specs.declared.Judged.TheVariants.{Accepted}
 use Rattle.request.specs.declared.Places.{Places}
-use Rattle.request.specs.declared.Reading.TheVariants.{Readable}
 use Rattle.request.proofs.Accepted.{Accepts, accepts}
 use Rattle.request.proofs.Answers.{fields_count, starts_length, colons_length, read_some, read_accepted}
 use Rattle.request.proofs.Fields.{end_order, end_inside, line_long, starts_here, colons_here}
@@ -147,7 +146,7 @@ pub record FieldSays (s : List ℕ) (q : Request) (head i : ℕ) (r : FieldParts
   pub value_order : r.value ≤ r.end
   pub inside : r.end ≤ head
 
-module _ (h : List ℕ) (o : Option Request) (w : Places) (x : Request) (q : Readable w ≡ reading h o) (r : o ≡ some x) where
+module _ (h : List ℕ) (o : Option Request) (w : Places) (x : Request) (q : Some w ≡ reading h o) (r : o ≡ some x) where
   places_so : w ≡ places_of h x
   places_so = cc (ap (reading h) r)
 
@@ -160,18 +159,18 @@ module _ (h : List ℕ) (o : Option Request) (w : Places) (x : Request) (q : Rea
   pub readable_lines : w.lines ≡ lines_start h x
   readable_lines = ap (λ (v : Places). v.lines) places_so
 
-readable_of : (h : List ℕ) (o : Option Request) (w : Places) → Readable w ≡ reading h o → Accepted w.head w.method w.uri (fields_start h) ≡ judged h o
+readable_of : (h : List ℕ) (o : Option Request) (w : Places) → Some w ≡ reading h o → head_at w.head w.method w.uri (fields_start h) ≡ judged h o
 readable_of h none w q = let z : ◌≡◌ {A = ℕ} 0 1 = cc in absurd (omega arith)
-readable_of h (some x) w q = ap (λ (v : Places). Accepted v.head v.method v.uri (fields_start h)) (places_so h (some x) w x q refl)
+readable_of h (some x) w q = ap (λ (v : Places). head_at v.head v.method v.uri (fields_start h)) (places_so h (some x) w x q refl)
 
-pub accepted_by : (s : List ℕ) (w : Places) → Readable w ≡ reading (head_of s) (read_request s) → Accepts s w.head w.method w.uri (fields_start (head_of s))
+pub accepted_by : (s : List ℕ) (w : Places) → Some w ≡ reading (head_of s) (read_request s) → Accepts s w.head w.method w.uri (fields_start (head_of s))
 accepted_by s w q = accepts s w.head w.method w.uri (fields_start (head_of s)) (readable_of (head_of s) (read_request s) w q)
 
 module _ (s starts colons : List ℕ) (head fields : ℕ) (x : Fielded s starts colons head fields) where
   abbrev w : Places
   w = places_of (head_of s) (request_of s)
 
-  w_read : Readable w ≡ reading (head_of s) (read_request s)
+  w_read : Some w ≡ reading (head_of s) (read_request s)
   w_read = sym (ap (reading (head_of s)) x.read)
 
   accepted_at : Accepts s head w.method w.uri (fields_start (head_of s))
@@ -418,7 +417,7 @@ module _ (s starts colons : List ℕ) (head fields : ℕ) (x : Fielded s starts 
 
 -- ---- what `read` leaves
 
-module _ (s starts colons starts' colons' : List ℕ) (w : Places) (k : Read s starts colons starts' colons' (Readable w)) where
+module _ (s starts colons starts' colons' : List ℕ) (w : Places) (k : Read s starts colons starts' colons' (Some w)) where
   a_read : Accepts s w.head w.method w.uri (fields_start (head_of s))
   a_read = accepted_by s w k.answer
 
@@ -455,7 +454,7 @@ fielded s starts colons w k e = record {
 }
 
 -- once they are written, and where body lines begin is still to be found
-module _ (s starts colons : List ℕ) (j : Judged) (ej : j ≡ judged (head_of s) (read_request s)) (e m u f : ℕ) (ea : j ≡ Accepted e m u f)
+module _ (s starts colons : List ℕ) (j : Answer HeadPlaces) (ej : j ≡ judged (head_of s) (read_request s)) (e m u f : ℕ) (ea : j ≡ head_at e m u f)
     (starts' colons' : List ℕ) (n : ℕ) (k : Filled (take (e - 0) (drop 0 s)) f starts colons starts' colons' n) where
   abbrev found : Places
   found = record { method = m; uri = u; head = e; fields = n; lines = lines_start (head_of s) (request_of s) }

@@ -1,4 +1,8 @@
 -- Judging a request: its head, its start line and its fields, by the places that the code finds.
+use Rattle.std.proofs.lemmas.Option.{same_Some}
+use Rattle.std.specs.Prelude.{Option as Answer, None}
+use Rattle.request.specs.declared.HeadPlaces.{HeadPlaces}
+use Rattle.request.specs.declared.start_lines.StartPlaces.{StartPlaces}
 use mathlib.Core.Bool.{Bool, true, false, not, ◌&&◌}
 use mathlib.Core.Option.{Option, none, some}
 use mathlib.Core.Path.{◌≡◌, refl, sym, ap, ◌∙◌, subst}
@@ -19,11 +23,7 @@ use Rattle.cuts.specs.Inner.Searching.{first}
 use Rattle.cuts.proofs.Search.{first_le, first_no, cut_found, cut_missing}
 use Rattle.request.specs.Inner.Places.{head_of, fields_start}
 use Rattle.request.specs.Request.{Field, Request, Start, head_byte, paired, head_lines, continues, whole_fields, start_line, field, all_fields, read_head, empty_line, read_request, bytes_right}
-use Rattle.request.specs.Inner.Steps.{start_places, is_some, is_field, lines_from, judged}
-use Rattle.request.specs.declared.Judged.{Judged}
-use Rattle.request.specs.declared.Judged.TheVariants.{Refused, Accepted}
-use Rattle.request.specs.declared.start_lines.StartLine.{StartLine}
-use Rattle.request.specs.declared.start_lines.StartLine.TheVariants.{Bad, Good}
+use Rattle.request.specs.Inner.Steps.{start_at, head_at, start_places, is_some, is_field, lines_from, judged}
 use Rattle.request.proofs.Head.{Pairs, pairs_end, pairs_byte, pairs_fold, pairs, pairs_paired}
 use Rattle.request.proofs.Lines.{lines_byte, continues_at, from_suc, from_start}
 use Rattle.request.proofs.Ends.{head_end}
@@ -93,28 +93,29 @@ built body o folds fs = do
   some (record { method = t.method; uri = t.uri; fields = l; body = body })
 
 module _ (h body : List ℕ) where
-  built_folds : (o : Option Start) (fs : Option (List Field)) → judged h (built body o true fs) ≡ Refused
+  built_folds : (o : Option Start) (fs : Option (List Field)) → judged h (built body o true fs) ≡ None
   built_folds none fs = refl
   built_folds (some t) fs = refl
 
-  built_bad : (o : Option Start) (folds : Bool) (fs : Option (List Field)) → start_places o ≡ Bad → judged h (built body o folds fs) ≡ Refused
+  built_bad : (o : Option Start) (folds : Bool) (fs : Option (List Field)) → start_places o ≡ None → judged h (built body o folds fs) ≡ None
   built_bad none folds fs e = refl
   built_bad (some t) folds fs e = let z : ◌≡◌ {A = ℕ} 0 1 = cc in absurd (omega arith)
 
-  built_wrong : (o : Option Start) (folds : Bool) (fs : Option (List Field)) → is_some fs ≡ false → judged h (built body o folds fs) ≡ Refused
+  built_wrong : (o : Option Start) (folds : Bool) (fs : Option (List Field)) → is_some fs ≡ false → judged h (built body o folds fs) ≡ None
   built_wrong none folds fs e = refl
   built_wrong (some t) true fs e = refl
   built_wrong (some t) false none e = refl
   built_wrong (some t) false (some l) e = let z : ◌≡◌ {A = ℕ} 0 1 = cc in absurd (omega arith)
 
-  built_right : (o : Option Start) (fs : Option (List Field)) (m u : ℕ) → start_places o ≡ Good m u → is_some fs ≡ true
-      → judged h (built body o false fs) ≡ Accepted (length h) m u (fields_start h)
+  built_right : (o : Option Start) (fs : Option (List Field)) (m u : ℕ) → start_places o ≡ start_at m u → is_some fs ≡ true
+      → judged h (built body o false fs) ≡ head_at (length h) m u (fields_start h)
   built_right none fs m u e f = let z : ◌≡◌ {A = ℕ} 0 1 = cc in absurd (omega arith)
   built_right (some t) none m u e f = let z : ◌≡◌ {A = ℕ} 0 1 = cc in absurd (omega arith)
   built_right (some t) (some l) m u e f =
-      let em : length t.method ≡ m = cc in
-      let eu : length t.method + 1 + length t.uri ≡ u = cc in
-      (λ i. Accepted (length h) (em i) (eu i) (fields_start h))
+      let same = same_Some _ _ e in
+      let em : length t.method ≡ m = ap (λ (p : StartPlaces). p.method) same in
+      let eu : length t.method + 1 + length t.uri ≡ u = ap (λ (p : StartPlaces). p.uri) same in
+      (λ i. head_at (length h) (em i) (eu i) (fields_start h))
 
 module _ (h : List ℕ) (n : ℕ) (pre : (length h ≤ 65535) × T (paired 0 h)) (en : n ≡ 0 + first (begins (13 ∷ [])) (drop 0 h)) where
   here : Starts h n
@@ -142,24 +143,24 @@ module _ (h : List ℕ) (n : ℕ) (pre : (length h ≤ 65535) × T (paired 0 h))
     by_fold : (t : Bool) → w ≡ t → read_head (head_lines h) [] ≡ built [] (start_line line) t fields
     by_fold t e = head_built [] w (ew ∙ ap white eb) ∙ ap (λ (x : Bool). built [] (start_line line) x fields) e
 
-    pub lines_fold : w ≡ true → Refused ≡ judged h (read_head (head_lines h) [])
+    pub lines_fold : w ≡ true → None ≡ judged h (read_head (head_lines h) [])
     lines_fold e = sym (ap (judged h) (by_fold true e) ∙ built_folds h [] (start_line line) fields)
 
-    module _ (y : w ≡ false) (t : StartLine) (et : t ≡ start_places (start_line line)) where
-      pub lines_bad : t ≡ Bad → Refused ≡ judged h (read_head (head_lines h) [])
+    module _ (y : w ≡ false) (t : Answer StartPlaces) (et : t ≡ start_places (start_line line)) where
+      pub lines_bad : t ≡ None → None ≡ judged h (read_head (head_lines h) [])
       lines_bad e = sym (ap (judged h) (by_fold false y) ∙ built_bad h [] (start_line line) false fields (sym et ∙ e))
 
-      module _ (m u : ℕ) (e : t ≡ Good m u) (r : Bool) (er : r ≡ every is_field (lines_from h (n + 2))) where
+      module _ (m u : ℕ) (e : t ≡ start_at m u) (r : Bool) (er : r ≡ every is_field (lines_from h (n + 2))) where
         some_is : is_some fields ≡ r
         some_is = all_fields_some (lines_from h (n + 2)) ∙ sym er
 
-        pub lines_wrong : r ≡ false → Refused ≡ judged h (read_head (head_lines h) [])
+        pub lines_wrong : r ≡ false → None ≡ judged h (read_head (head_lines h) [])
         lines_wrong q = sym (ap (judged h) (by_fold false y) ∙ built_wrong h [] (start_line line) false fields (some_is ∙ q))
 
-        pub lines_right : r ≡ true → Accepted (length h) m u (n + 2) ≡ judged h (read_head (head_lines h) [])
+        pub lines_right : r ≡ true → head_at (length h) m u (n + 2) ≡ judged h (read_head (head_lines h) [])
         lines_right q =
             let start : fields_start h ≡ n + 2 = ap (λ (ls : List (List ℕ)). length (first_line ls) + 2) here.lines ∙ ap (λ (k : ℕ). k + 2) (length-take-le n h n_inside) in
-            sym (ap (judged h) (by_fold false y) ∙ built_right h [] (start_line line) fields m u (sym et ∙ e) (some_is ∙ q) ∙ ap (Accepted (length h) m u) start)
+            sym (ap (judged h) (by_fold false y) ∙ built_right h [] (start_line line) fields m u (sym et ∙ e) (some_is ∙ q) ∙ ap (head_at (length h) m u) start)
 
 -- ---- the head
 
@@ -179,7 +180,7 @@ pub long_unreadable : (s : List ℕ) → 65535 < length s → read_request s ≡
 unfolding read_request
 long_unreadable s h = rw (lt-leb (length s) 65535 h)
 
-pub judge_long : (s : List ℕ) → 65535 < length s → Refused ≡ judged (head_of s) (read_request s)
+pub judge_long : (s : List ℕ) → 65535 < length s → None ≡ judged (head_of s) (read_request s)
 judge_long s h = sym (ap (judged (head_of s)) (long_unreadable s h))
 
 module _ (s : List ℕ) (short : length s ≤ 65535) (e : ℕ) (e_is : e ≡ length (head_of s)) where
@@ -196,7 +197,7 @@ module _ (s : List ℕ) (short : length s ≤ 65535) (e : ℕ) (e_is : e ≡ len
   place : first (begins empty_line) s ≡ e
   place = sym (e_is ∙ head_end s)
 
-  pub judge_endless : length s ≤ e → Refused ≡ judged (head_of s) (read_request s)
+  pub judge_endless : length s ≤ e → None ≡ judged (head_of s) (read_request s)
   judge_endless h = sym (ap (judged (head_of s)) (read_is ∙ ap reading (cut_missing empty_line s (omega (arith, place)))))
 
   module _ (more : e < length s) where
@@ -214,7 +215,7 @@ module _ (s : List ℕ) (short : length s ≤ 65535) (e : ℕ) (e_is : e ≡ len
         read_is ∙ ap reading cut
         ∙ ap (λ (x : Bool). holds x >>= λ _. read_head (head_lines (take e s)) (drop (e + 4) s)) (ap bytes_right (sym head_is_front) ∙ q)
 
-    pub judge_bytes : bytes_right (head_of s) ≡ false → Refused ≡ judged (head_of s) (read_request s)
+    pub judge_bytes : bytes_right (head_of s) ≡ false → None ≡ judged (head_of s) (read_request s)
     judge_bytes n = sym (ap (judged (head_of s)) (read_by_test false n))
 
     -- ---- what the code finds of its bytes
@@ -232,14 +233,14 @@ module _ (s : List ℕ) (short : length s ≤ 65535) (e : ℕ) (e_is : e ≡ len
       right_is : bytes_right (head_of s) ≡ r
       right_is = ap bytes_right (head_is_front ∙ sym front_is) ∙ sym er
 
-      pub judge_wrong : not r ≡ true → Refused ≡ judged (head_of s) (read_request s)
+      pub judge_wrong : not r ≡ true → None ≡ judged (head_of s) (read_request s)
       judge_wrong n = judge_bytes (right_is ∙ not-true r n)
 
       module _ (y : not r ≡ false) where
         pub front_paired : T (paired 0 front)
         front_paired = right (every head_byte front) (paired 0 front) (T_of (sym er ∙ not-false r y))
 
-        pub judge_lines : (j : Judged) → j ≡ judged front (read_head (head_lines front) []) → j ≡ judged (head_of s) (read_request s)
+        pub judge_lines : (j : Answer HeadPlaces) → j ≡ judged front (read_head (head_lines front) []) → j ≡ judged (head_of s) (read_request s)
         judge_lines j ej =
             ej ∙ ap (λ (l : List ℕ). judged l (read_head (head_lines l) [])) front_is
             ∙ head_free (take e s) [] (drop (e + 4) s) (head_lines (take e s))

@@ -1,4 +1,5 @@
 -- For callers: what the places of a readable request say of it. Its method, URI, fields and body lines; and what `read` leaves.
+use Rattle.std.specs.Prelude.{Option as Answer, Some, None}
 use mathlib.Core.Option.{Option, none, some}
 use mathlib.Core.Path.{◌≡◌, sym, ap, ◌∙◌, subst}
 use mathlib.Core.List.{List}
@@ -14,8 +15,6 @@ use Rattle.request.specs.Request.{request_lines, Request, read_request}
 use Rattle.request.specs.Inner.Places.{head_of, fields_start, lines_start, Read, Placed, Fielded, Rooms, or_blank, request_of, field_parts}
 use Rattle.request.specs.declared.FieldParts.{FieldParts}
 use Rattle.request.specs.declared.Places.{Places}
-use Rattle.request.specs.declared.Reading.{Reading}
-use Rattle.request.specs.declared.Reading.TheVariants.{Unreadable, Readable}
 use Rattle.request.proofs.Accepted.{Accepts}
 use Rattle.request.proofs.Answers.{read_none}
 use Rattle.request.proofs.Described.{start_inside, lines_there}
@@ -113,11 +112,11 @@ module _ (s starts colons : List ℕ) (p : Places) (k : Placed s starts colons p
 
 -- ---- what `read` leaves
 
-module _ (s starts colons starts' colons' : List ℕ) (rd : Reading) (k : Read s starts colons starts' colons' rd) where
-  pub unreadable : rd ≡ Unreadable → read_request s ≡ none
+module _ (s starts colons starts' colons' : List ℕ) (rd : Answer Places) (k : Read s starts colons starts' colons' rd) where
+  pub unreadable : rd ≡ None → read_request s ≡ none
   unreadable e = read_none s starts colons starts' colons' (subst (Read s starts colons starts' colons') e k)
 
-  module _ (p : Places) (q : rd ≡ Readable p) where
+  module _ (p : Places) (q : rd ≡ Some p) where
     pub readable : Placed s starts' colons' p
     readable = placed s starts colons starts' colons' p (subst (Read s starts colons starts' colons') q k)
 

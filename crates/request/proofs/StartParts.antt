@@ -1,4 +1,5 @@
 -- The start line: its words byte by byte, and its three parts by the places of the two SPs.
+use Rattle.std.specs.Prelude.{None}
 use mathlib.Core.Bool.{Bool, true, false, not, ◌&&◌, ◌||◌, and-false}
 use mathlib.Core.Option.{Option, none, some}
 use mathlib.Core.Path.{◌≡◌, refl, sym, ap, ◌∙◌}
@@ -24,8 +25,7 @@ use Rattle.cuts.specs.Inner.Parts.{part}
 use Rattle.cuts.specs.Inner.Searching.{first}
 use Rattle.cuts.proofs.Cuts.{cut_on, cut_last, nonempty}
 use Rattle.request.specs.Request.{Start, three, start_line, parts_right}
-use Rattle.request.specs.Inner.Steps.{word_byte, start_places}
-use Rattle.request.specs.declared.start_lines.StartLine.TheVariants.{Bad, Good}
+use Rattle.request.specs.Inner.Steps.{start_at, word_byte, start_places}
 
 -- ---- words
 
@@ -145,7 +145,7 @@ module _ (l : List ℕ) (m : ℕ) (em : m ≡ 0 + first (begins (32 ∷ [])) (dr
   m_is : sp l ≡ m
   m_is = omega (arith, em)
 
-  pub start_no_sp : length l ≤ m → Bad ≡ start_places (start_line l)
+  pub start_no_sp : length l ≤ m → None ≡ start_places (start_line l)
   start_no_sp h = sym (ap (λ (ls : List (List ℕ)). start_places (three ls)) (cut_last 32 l (omega (arith, m_is))))
 
   module _ (more : m < length l) (u : ℕ) (eu : u ≡ m + 1 + first (begins (32 ∷ [])) (drop (m + 1) l)) where
@@ -155,7 +155,7 @@ module _ (l : List ℕ) (m : ℕ) (em : m ≡ 0 + first (begins (32 ∷ [])) (dr
     on_m : cut_at 32 l ≡ take m l ∷ cut_at 32 (drop (m + 1) l)
     on_m = cut_on 32 l (omega (arith, m_is)) ∙ ap (λ (k : ℕ). take k l ∷ cut_at 32 (drop (k + 1) l)) m_is
 
-    pub start_one_sp : length l ≤ u → Bad ≡ start_places (start_line l)
+    pub start_one_sp : length l ≤ u → None ≡ start_places (start_line l)
     start_one_sp h =
         sym (ap (λ (ls : List (List ℕ)). start_places (three ls))
         (on_m ∙ ap (λ (ls : List (List ℕ)). take m l ∷ ls) (cut_last 32 (drop (m + 1) l) (omega (arith, in_after, eu)))))
@@ -176,13 +176,13 @@ module _ (l : List ℕ) (m : ℕ) (em : m ≡ 0 + first (begins (32 ∷ [])) (dr
           ∙ three_parts (take m l) (part l (m + 1) u) (drop (u + 1) l)
           ∙ ap (started (take m l) (part l (m + 1) u)) (sym er)
 
-      pub start_wrong : r ≡ false → Bad ≡ start_places (start_line l)
+      pub start_wrong : r ≡ false → None ≡ start_places (start_line l)
       start_wrong f = sym (ap start_places (start_whole ∙ ap (started (take m l) (part l (m + 1) u)) f))
 
-      pub start_right : r ≡ true → Good m u ≡ start_places (start_line l)
+      pub start_right : r ≡ true → start_at m u ≡ start_places (start_line l)
       start_right f =
           let long_m : length (take m l) ≡ m = length-take-le m l (omega arith) in
           let long_u : length (part l (m + 1) u) ≡ u - (m + 1) = length-take-le (u - (m + 1)) (drop (m + 1) l) (omega (arith, in_after)) in
           let u_is : m + 1 + (u - (m + 1)) ≡ u = omega (arith, eu) in
           sym (ap start_places (start_whole ∙ ap (started (take m l) (part l (m + 1) u)) f)
-          ∙ (λ i. Good (long_m i) (long_m i + 1 + long_u i)) ∙ ap (Good m) u_is)
+          ∙ (λ i. start_at (long_m i) (long_m i + 1 + long_u i)) ∙ ap (start_at m) u_is)

@@ -32,14 +32,12 @@ fn is_described(
     let long = contents::long_names();
     let mut seen = false;
     let mut describes = false;
-    let mut i: usize = 0;
-    while i < fields {
+    for i in 0..fields {
         let f = parts_at(s, starts, colons, head, fields, i);
         let a = f.name;
         let b = f.stop;
         let v = f.value;
         let e = f.end;
-        i += 1;
         let name = contents::as_matched(&s[a..b], &long);
         if !octets::same_letters(name, b"Content-Type") {
             continue;

@@ -12,67 +12,62 @@ mod descriptions;
 mod field_lines;
 mod head_bytes;
 mod head_ends;
+mod readable;
 mod start_lines;
 
 use crate::descriptions::lines_start;
 use crate::field_lines::{are_fields, line_end};
 use crate::head_bytes::bytes_right;
 pub use crate::head_ends::head_end;
-use crate::start_lines::{StartLine, start_line};
+pub use crate::readable::ReadableRequest;
+use crate::start_lines::start_line;
 
 // ---- the request
 
-// A request: where its head, its method and its URI end, and where the line of its first field starts.
+// Where the head, the method and the URI of a readable request end, and where the line of its first field starts.
 #[derive(Clone, Copy)]
-enum Judged {
-    Refused,
-    Accepted {
-        head: usize,
-        method: usize,
-        uri: usize,
-        fields: usize,
-    },
+struct HeadPlaces {
+    head: usize,
+    method: usize,
+    uri: usize,
+    fields: usize,
 }
 
 // The lines of a head whose bytes are right.
-fn judge_lines(h: &[u8]) -> Judged
+fn judge_lines(h: &[u8]) -> Option<HeadPlaces>
     requires { (length h.now ≤ 65535) × T (paired 0 h.now) }
     ensures { result ≡ judged h.now (read_head (head_lines h.now) []) }
 {
     let n = cuts::place_of(h, 0, 13);
     // "none may follow the start line directly" (document 01): no line that continues it
     if cuts::is_white(octets::byte_at(h, n + 2)) {
-        return Judged::Refused;
+        return None;
     }
-    match start_line(&h[0..n]) {
-        StartLine::Bad => Judged::Refused,
-        StartLine::Good { method, uri } => {
-            let table = octets::class_table();
-            if are_fields(&table, h, n + 2) {
-                return Judged::Accepted {
-                    head: h.len(),
-                    method: method,
-                    uri: uri,
-                    fields: n + 2,
-                };
-            }
-            Judged::Refused
-        }
+    let start = start_line(&h[0..n])?;
+    let table = octets::class_table();
+    if !are_fields(&table, h, n + 2) {
+        return None;
     }
+    Some(HeadPlaces {
+        head: h.len(),
+        method: start.method,
+        uri: start.uri,
+        fields: n + 2,
+    })
 }
 
-fn judge(s: &[u8]) -> Judged
+fn judge(s: &[u8]) -> Option<HeadPlaces>
     ensures { result ≡ judged (head_of s.now) (read_request s.now) }
 {
     if 65535 < s.len() {
-        return Judged::Refused;
+        return None;
     }
     let at = head_end(s);
     if s.len() <= at {
-        return Judged::Refused;
+        return None;
     }
     if !bytes_right(&s[0..at]) {
-        return Judged::Refused;
+        return None;
     }
     judge_lines(&s[0..at])
 }
@@ -107,39 +102,23 @@ pub struct Places {
     pub lines: usize,
 }
 
-// What is read.
-#[derive(Clone, Copy)]
-pub enum Reading {
-    Unreadable,
-    Readable(Places),
-}
-
 // Reads a request. The places of each field's line and of its colon go to the front of the lent places, which are at least a quarter as
 // many as the request has bytes, since a field takes four; none of them is written where the request is unreadable. What stands in the
 // room afterwards means nothing.
-pub fn read(s: &[u8], starts: &mut [u16], colons: &mut [u16], room: &mut [u8]) -> Reading
+pub fn read(s: &[u8], starts: &mut [u16], colons: &mut [u16], room: &mut [u8]) -> Option<Places>
     requires { Rooms s.now starts.old colons.old room.old }
     ensures { Read s.now starts.old colons.old starts.new colons.new result }
 {
-    match judge(s) {
-        Judged::Refused => Reading::Unreadable,
-        Judged::Accepted {
-            head,
-            method,
-            uri,
-            fields,
-        } => {
-            let n = fill(&s[0..head], fields, starts, colons);
-            let lines = lines_start(s, starts, colons, head, n, room);
-            Reading::Readable(Places {
-                method,
-                uri,
-                head,
-                fields: n,
-                lines,
-            })
-        }
-    }
+    let h = judge(s)?;
+    let fields = fill(&s[0..h.head], h.fields, starts, colons);
+    let lines = lines_start(s, starts, colons, h.head, fields, room);
+    Some(Places {
+        method: h.method,
+        uri: h.uri,
+        head: h.head,
+        fields,
+        lines,
+    })
 }
 
 // ---- one field

@@ -6,11 +6,11 @@ ghost use Rattle.cuts.specs.Inner.Parts.{part};
 ghost use Rattle.request.specs.Request.{start_line, parts_right};
 ghost use Rattle.request.specs.Inner.Steps.{word_byte, start_places};
 
-// A start line: where its method ends and where its URI ends.
+// Where the method of a start line ends, and where its URI ends.
 #[derive(Clone, Copy)]
-pub(crate) enum StartLine {
-    Bad,
-    Good { method: usize, uri: usize },
+pub(crate) struct StartPlaces {
+    pub method: usize,
+    pub uri: usize,
 }
 
 // A byte of a URI, or else of a token.
@@ -59,19 +59,19 @@ fn start_parts_right(l: &[u8], m: usize, u: usize) -> bool
     octets::same_letters(&l[u + 1..], b"SIP/2.0")
 }
 
-pub(crate) fn start_line(l: &[u8]) -> StartLine
+pub(crate) fn start_line(l: &[u8]) -> Option<StartPlaces>
     ensures { result ≡ start_places (start_line l.now) }
 {
     let m = cuts::place_of(l, 0, 32);
     if l.len() <= m {
-        return StartLine::Bad;
+        return None;
     }
     let u = cuts::place_of(l, m + 1, 32);
     if l.len() <= u {
-        return StartLine::Bad;
+        return None;
     }
     if start_parts_right(l, m, u) {
-        return StartLine::Good { method: m, uri: u };
+        return Some(StartPlaces { method: m, uri: u });
     }
-    StartLine::Bad
+    None
 }

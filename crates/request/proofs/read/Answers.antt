@@ -1,19 +1,22 @@
 use Rattle.request.proofs.Answers.{head_inside, fillable, room_enough, read_refused, read_accepted}
 use Rattle.request.proofs.Indexing.{filled_fields}
-use borrow.Author.Rules.{rules}
 use Rattle.request.proofs.read.Goals as goal
 
-pub slice_bounds-fill-end : goal.slice_bounds-fill-end
-slice_bounds-fill-end c = search head_inside
+pub returns-in_err-h : goal.returns-in_err-h
+returns-in_err-h c = read_refused _ _ _ _ c.judge.ensures c.in_err-h.was _ c.from_residual.ensures
 
-pub fill-n-requires : goal.fill-n-requires
-fill-n-requires c = search fillable
+pub slice_bounds-fill-end : goal.slice_bounds-fill-end
+slice_bounds-fill-end c = head_inside _ c.args.starts.now c.args.colons.now _ c.judge.ensures _ _ _ _ c.in_ok-h.was
+
+pub fill-fields-requires : goal.fill-fields-requires
+fill-fields-requires c = fillable _ _ _ _ c.judge.ensures _ _ _ _ c.in_ok-h.was _ c.requires
 
 pub lines_start-lines-requires : goal.lines_start-lines-requires
-lines_start-lines-requires c = (search (filled_fields, c.judge.ensures, c.fill-n.ensures), search (rules, room_enough))
+lines_start-lines-requires c = (
+  filled_fields _ _ _ _ c.judge.ensures _ _ _ _ c.in_ok-h.was _ _ _ c.fill-fields.ensures,
+  room_enough _ _ _ _ c.judge.ensures _ _ _ _ c.in_ok-h.was _ c.requires,
+)
 
-pub returns-in-Refused : goal.returns-in-Refused
-returns-in-Refused c = search read_refused
-
-pub returns-in-Accepted : goal.returns-in-Accepted
-returns-in-Accepted c = search read_accepted
+pub returns : goal.returns
+returns c =
+    read_accepted _ _ _ _ c.judge.ensures _ _ _ _ c.in_ok-h.was _ _ _ c.fill-fields.ensures _ c.lines_start-lines.ensures

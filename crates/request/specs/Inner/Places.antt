@@ -1,6 +1,6 @@
 -- Where the parts of a request stand in its bytes. Every place is a sum of lengths of what the definitions cut the bytes into.
 use Rattle.std.proofs.Math.Option.{Option, none, some}
-use Rattle.std.specs.Prelude.{◌≡◌, List, [], ◌∷◌, ℕ, ◌+◌, ◌*◌, ◌≤◌, length, get_or, take}
+use Rattle.std.specs.Prelude.{◌≡◌, List, [], ◌∷◌, ℕ, ◌+◌, ◌*◌, ◌≤◌, length, get_or, take, Option as Answer, Some, None}
 use Rattle.octets.specs.Lists.{text, pick}
 use Rattle.cuts.specs.Cutting.{first_cut, cut_by, before_cut, first_line}
 use Rattle.cuts.specs.Inner.Parts.{over}
@@ -8,8 +8,6 @@ use Rattle.cuts.specs.Trimming.{trim_right}
 use Rattle.request.specs.Request.{empty_line, head_lines, whole_fields, Request, read_request, is_description}
 use Rattle.request.specs.declared.FieldParts.{FieldParts}
 use Rattle.request.specs.declared.Places.{Places}
-use Rattle.request.specs.declared.Reading.{Reading}
-use Rattle.request.specs.declared.Reading.TheVariants.{Unreadable, Readable}
 
 -- the head: its length is the place of the first CR LF CR LF, or the length where there is none
 unfoldable pub head_of : List ℕ → List ℕ
@@ -64,9 +62,9 @@ places_of h q = record {
   lines = lines_start h q;
 }
 
-abbrev pub reading : List ℕ → Option Request → Reading
-reading h none = Unreadable
-reading h (some q) = Readable (places_of h q)
+abbrev pub reading : List ℕ → Option Request → Answer Places
+reading h none = None
+reading h (some q) = Some (places_of h q)
 
 -- where the lines of the fields start, and where their colons stand; nothing is written where the request is unreadable
 abbrev pub starts_of : List ℕ → Option Request → List ℕ
@@ -81,7 +79,7 @@ colons_of h (some q) = line_colons (fields_start h) (field_lines h)
 pub record Room (s places : List ℕ) : Type 0 where
   pub enough : length s ≤ 65535 → length s ≤ 4 * length places
 
-pub record Read (s starts colons starts' colons' : List ℕ) (r : Reading) : Type 0 where
+pub record Read (s starts colons starts' colons' : List ℕ) (r : Answer Places) : Type 0 where
   pub answer : r ≡ reading (head_of s) (read_request s)
   pub starts_are : starts' ≡ over (starts_of (head_of s) (read_request s)) starts
   pub colons_are : colons' ≡ over (colons_of (head_of s) (read_request s)) colons
@@ -90,7 +88,7 @@ pub record Read (s starts colons starts' colons' : List ℕ) (r : Reading) : Typ
 
 -- the bytes are readable, and the places are those that `read` gave and wrote
 pub record Placed (s starts colons : List ℕ) (p : Places) : Type 0 where
-  pub read : Readable p ≡ reading (head_of s) (read_request s)
+  pub read : Some p ≡ reading (head_of s) (read_request s)
   pub starts_are : take p.fields starts ≡ starts_of (head_of s) (read_request s)
   pub colons_are : take p.fields colons ≡ colons_of (head_of s) (read_request s)
 

@@ -6,9 +6,6 @@ use Rattle.request.proofs.descriptions.is_described.Goals as goal
 pub loop-i-init : goal.loop-i-init
 loop-i-init c = search (rules, looking_first)
 
-pub overflow_add-i : goal.overflow_add-i
-overflow_add-i c = search (rules, next_room)
-
 pub slice_bounds-as_matched-count : goal.slice_bounds-as_matched-count
 slice_bounds-as_matched-count c = search (rules, name_order)
 

@@ -7,6 +7,3 @@ use Rattle.request.proofs.descriptions.is_described.Given as goal
 abbrev pub invariant-loop-i : goal.invariant-loop-i
 invariant-loop-i l =
     Looking l.s l.fields l.i l.seen l.describes × (length l.room ≡ length l.initial.room) × (length l.s ≤ length l.room)
-
-abbrev pub decreases-loop-i : goal.decreases-loop-i
-decreases-loop-i l = l.fields - l.i
