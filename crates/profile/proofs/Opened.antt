@@ -93,6 +93,15 @@ opened s j h z = go (judge s) refl h.answer
         }
     go (refused n place) e f = absurd (refused_not n s e (sym (ap (λ (x : Judgement). x.refusal) f) ∙ z))
 
+-- its place, where nothing is refused
+pub no_place : (s : List ℕ) (j : Judgement) → Judges s j → j.refusal ≡ 0 → j.place ≡ 0
+unfolding judgement
+no_place s j h z = go (judge s) refl h.answer
+  where
+    go : (d : Judged) → judge s ≡ d → j ≡ kept s d → j.place ≡ 0
+    go (accepted p) e f = ap (λ (x : Judgement). x.place) f
+    go (refused n place) e f = absurd (refused_not n s e (sym (ap (λ (x : Judgement). x.refusal) f) ∙ z))
+
 -- ---- the strings
 
 string_end : (s : List ℕ) (at : ℕ) (a : List ℕ) (next : ℕ) → cells.string s at ≡ good (a, next) → (next ≡ at + 2 + word s at) × (at + 2 + word s at ≤ length s)

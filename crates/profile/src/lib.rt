@@ -11,6 +11,9 @@ ghost use Rattle.profile.specs.Inner.Decoded.{stored_in, string_of, laid_criteri
 ghost use Rattle.cells.specs.Inner.Answers.{field_out, Table, Known};
 ghost use Rattle.profile.specs.Inner.Answers.{LaidAs, Laid, opening, criteria_on, members_on, rows_on, judged_out};
 
+mod accepted_image;
+
+pub use crate::accepted_image::AcceptedImage;
 use cells::{Field, byte_at, count_at, judge_strings, strings, text};
 use entries::{all_placed, criteria, members, rows};
 

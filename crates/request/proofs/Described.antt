@@ -18,7 +18,7 @@ use Rattle.contents.proofs.Laws.{reduced_front}
 use Rattle.request.specs.Inner.Places.{head_of, Fielded, request_of, field_parts, lines_start}
 use Rattle.request.specs.Request.{Field, described_by, is_description, request_lines}
 use Rattle.request.specs.declared.FieldParts.{FieldParts}
-use Rattle.request.proofs.Indexing.{short, few, head_inside, body_is, body_length}
+use Rattle.request.proofs.Indexing.{short, head_inside, body_is, body_length}
 use Rattle.request.proofs.OneField.{said}
 
 -- ---- the value of such a field, reduced into the room
@@ -61,9 +61,6 @@ first_one says f (g ∷ l) = refl
 
 module _ (s starts colons : List ℕ) (head fields : ℕ) (x : Fielded s starts colons head fields) (i : ℕ) (seen says : Bool)
     (k : Looking s fields i seen says) where
-  pub next_room : i < fields → i + 1 < 18446744073709551616
-  next_room less = omega (arith, few s starts colons head fields x i less)
-
   module _ (less : i < fields) (f : FieldParts) (f_is : f ≡ field_parts (head_of s) i) where
     abbrev name : List ℕ
     name = name_as_matched (part s f.name f.stop)

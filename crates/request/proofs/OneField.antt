@@ -3,10 +3,10 @@ use mathlib.Core.Path.{◌≡◌, sym, subst}
 use mathlib.Core.List.{List}
 use Prim.Native.Nat.{ℕ, ◌-◌, ◌≤◌, ◌<◌}
 use native.Mathlib.Omega.{arith}
-use lib.ListN.{length}
+use lib.ListN.{length, take, drop}
 use Rattle.cuts.specs.Inner.Parts.{part}
 use Rattle.cuts.proofs.Parts.{length_part}
-use Rattle.request.specs.Inner.Places.{head_of, Fielded, request_of, field_parts}
+use Rattle.request.specs.Inner.Places.{head_of, Fielded, request_of, field_parts, FieldIs}
 use Rattle.request.specs.declared.FieldParts.{FieldParts}
 use Rattle.request.proofs.Indexing.{FieldSays, field_says, short, head_inside}
 
@@ -38,3 +38,7 @@ module _ (s starts colons : List ℕ) (head fields : ℕ) (x : Fielded s starts 
   -- room for the whole request is room for each value of it
   pub value_room : (m : ℕ) → length s ≤ m → length (part s f.value f.end) ≤ m
   value_room m h = omega (arith, value_long, value_inside)
+
+  -- the field itself, by its bytes
+  pub field_is : FieldIs s i (take (f.stop - f.name) (drop f.name s)) (take (f.end - f.value) (drop f.value s))
+  field_is = record { list = said.list; inside = value_room (length s) (omega arith); short = value_short }

@@ -4,9 +4,10 @@ use mathlib.Core.Option.{Option, none, some}
 use mathlib.Core.Path.{◌≡◌, sym, ap, ◌∙◌, subst}
 use mathlib.Core.List.{List}
 use Prim.Native.Nat.{ℕ, ◌+◌, ◌-◌, ◌*◌, ◌≤◌, ◌<◌, zero-le}
-use native.Mathlib.Nat.{sub-zero, le_trans}
+use native.Mathlib.Nat.{sub-zero, le_of_eq, le_trans}
 use native.Mathlib.Omega.{arith}
-use lib.ListN.{length, take, drop}
+use lib.ListN.{length, take, drop, length-drop}
+use lib.Seq.{take_all}
 use Rattle.octets.specs.Lists.{total}
 use Rattle.octets.proofs.Options.{Ok}
 use Rattle.cuts.specs.Inner.Parts.{part}
@@ -85,6 +86,16 @@ module _ (s starts colons : List ℕ) (p : Places) (k : Placed s starts colons p
   -- those of the bytes from their place on
   pub lines_are : session_lines (drop p.lines s) ≡ request_lines (request_of s)
   lines_are = ap (λ (i : ℕ). session_lines (drop i s)) lines_place ∙ lines_there s starts colons p.head p.fields places_alone
+
+  -- they are what `described` answers
+  abbrev rest : List ℕ
+  rest = take (length s - p.lines) (drop p.lines s)
+
+  rest_is : rest ≡ drop p.lines s
+  rest_is = take_all (length s - p.lines) (drop p.lines s) (le_of_eq (length-drop p.lines s))
+
+  pub described_is : (session_lines rest ≡ request_lines (request_of s)) × (length rest ≤ 65535)
+  described_is = (ap session_lines rest_is ∙ lines_are, omega (arith, ap length rest_is, length-drop p.lines s, short))
 
   -- ---- its fields
 

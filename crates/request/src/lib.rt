@@ -19,7 +19,7 @@ use crate::descriptions::lines_start;
 use crate::field_lines::{are_fields, line_end};
 use crate::head_bytes::bytes_right;
 pub use crate::head_ends::head_end;
-pub use crate::readable::ReadableRequest;
+pub use crate::readable::{Field, ReadableRequest};
 use crate::start_lines::start_line;
 
 // ---- the request
@@ -165,12 +165,4 @@ pub(crate) fn parts_at(
         value: k + 1,
         end: e,
     }
-}
-
-// Field i of a request that was read.
-pub fn field_at(s: &[u8], starts: &[u16], colons: &[u16], places: Places, i: usize) -> FieldParts
-    requires { Placed s.now starts.now colons.now places × (i < places.fields) }
-    ensures { result ≡ field_parts (head_of s.now) i }
-{
-    parts_at(s, starts, colons, places.head, places.fields, i)
 }

@@ -1,9 +1,11 @@
 // A request that was read, as the crates above are lent it.
-ghost use Rattle.std.specs.Prelude.{◌≡◌, ◌<◌};
+ghost use Rattle.std.specs.Prelude.{◌≡◌, ◌<◌, ◌≤◌, length};
 ghost use Rattle.std.proofs.Props.{props};
-ghost use Rattle.request.specs.Inner.Places.{head_of, Placed, field_parts};
+ghost use Rattle.contents.specs.Body.{session_lines};
+ghost use Rattle.request.specs.Request.{request_lines};
+ghost use Rattle.request.specs.Inner.Places.{head_of, request_of, Placed, FieldIs, field_parts};
 
-use crate::{FieldParts, Places, field_at};
+use crate::{FieldParts, Places, parts_at};
 
 // Its bytes, and the places of its parts, as `read` found them: those of its fields' lines and colons stand in places that were lent.
 #[derive(Clone, Copy)]
@@ -15,11 +17,56 @@ pub struct ReadableRequest<'a> {
     pub ghost placed: { Placed bytes.now starts.now colons.now places } by { Prim.hlevel props },
 }
 
+// A field: its name as written, and its raw value.
+#[derive(Clone, Copy)]
+pub struct Field<'a> {
+    pub name: &'a [u8],
+    pub value: &'a [u8],
+}
+
 impl<'a> ReadableRequest<'a> {
-    pub fn field(&self, i: usize) -> FieldParts
+    pub fn method(&self) -> &'a [u8]
+        ensures { result.now ≡ (request_of self.now.bytes.now).method }
+    {
+        &self.bytes[0..self.places.method]
+    }
+
+    pub fn uri(&self) -> &'a [u8]
+        ensures { result.now ≡ (request_of self.now.bytes.now).uri }
+    {
+        &self.bytes[self.places.method + 1..self.places.uri]
+    }
+
+    // The bytes whose lines are the body's: none where the body is no session description.
+    pub fn described(&self) -> &'a [u8]
+        ensures { (session_lines result.now ≡ request_lines (request_of self.now.bytes.now)) × (length result.now ≤ 65535) }
+    {
+        &self.bytes[self.places.lines..]
+    }
+
+    // Where the parts of field i stand.
+    pub fn parts(&self, i: usize) -> FieldParts
         requires { i < self.now.places.fields }
         ensures { result ≡ field_parts (head_of self.now.bytes.now) i }
     {
-        field_at(self.bytes, self.starts, self.colons, self.places, i)
+        parts_at(
+            self.bytes,
+            self.starts,
+            self.colons,
+            self.places.head,
+            self.places.fields,
+            i,
+        )
+    }
+
+    pub fn field(&self, i: usize) -> Field<'a>
+        requires { i < self.now.places.fields }
+        ensures { FieldIs self.now.bytes.now i result.name.now result.value.now }
+    {
+        let at = self.parts(i);
+        Field {
+            name: &self.bytes[at.name..at.stop],
+            value: &self.bytes[at.value..at.end],
+        }
     }
 }

@@ -34,8 +34,7 @@ pub record Judges (s : List ℕ) (a : Judgement) : Type 0 where
 
 -- it was judged and accepted, with this layout and this table of its strings: what every step over an accepted image asks
 pub record Standing (s table : List ℕ) (y : Layout) : Type 0 where
-  pub place : ℕ
-  pub judges : Judges s (record { refusal = 0; place = place; layout = y; table = table })
+  pub judges : Judges s (record { refusal = 0; place = 0; layout = y; table = table })
 
 -- its row k and its criterion k
 abbrev pub nth_row : List ℕ → Layout → ℕ → image.Row

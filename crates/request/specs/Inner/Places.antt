@@ -1,10 +1,12 @@
 -- Where the parts of a request stand in its bytes. Every place is a sum of lengths of what the definitions cut the bytes into.
 use Rattle.std.proofs.Math.Option.{Option, none, some}
-use Rattle.std.specs.Prelude.{◌≡◌, List, [], ◌∷◌, ℕ, ◌+◌, ◌*◌, ◌≤◌, length, get_or, take, Option as Answer, Some, None}
+use Rattle.std.specs.Prelude.{◌≡◌, List, [], ◌∷◌, ℕ, ◌+◌, ◌*◌, ◌≤◌, length, get_or, take, drop, Option as Answer, Some, None}
 use Rattle.octets.specs.Lists.{text, pick}
 use Rattle.cuts.specs.Cutting.{first_cut, cut_by, before_cut, first_line}
 use Rattle.cuts.specs.Inner.Parts.{over}
 use Rattle.cuts.specs.Trimming.{trim_right}
+use Rattle.contents.specs.Names.{name_as_matched}
+use Rattle.contents.specs.Values.{reduced, values_of}
 use Rattle.request.specs.Request.{empty_line, head_lines, whole_fields, Request, read_request, is_description}
 use Rattle.request.specs.declared.FieldParts.{FieldParts}
 use Rattle.request.specs.declared.Places.{Places}
@@ -130,3 +132,10 @@ parts_of at l = record {
 unfoldable pub field_parts : List ℕ → ℕ → FieldParts
 unfolding field_lines line_starts colon_in trim_right
 field_parts h i = parts_of (get_or (line_starts (fields_start h) (field_lines h)) i 0) (get_or (field_lines h) i [])
+
+-- Field i of a request that was read: its name as written, and its raw value, which is no longer than the request.
+pub record FieldIs (s : List ℕ) (i : ℕ) (name value : List ℕ) : Type 0 where
+  pub list : drop i (request_of s).fields
+      ≡ record { name = name_as_matched name; values = values_of (name_as_matched name) (reduced value) } ∷ drop (i + 1) (request_of s).fields
+  pub inside : length value ≤ length s
+  pub short : length value ≤ 65535

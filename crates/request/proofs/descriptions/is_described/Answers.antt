@@ -1,4 +1,4 @@
-use Rattle.request.proofs.Described.{looking_first, looking_past, looking_on, looking_end, second_one, next_room}
+use Rattle.request.proofs.Described.{looking_first, looking_past, looking_on, looking_end, second_one}
 use Rattle.request.proofs.OneField.{name_order, name_inside, value_order, value_inside, value_short, value_room}
 use borrow.Author.Rules.{rules}
 use Rattle.request.proofs.descriptions.is_described.Goals as goal
