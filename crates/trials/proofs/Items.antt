@@ -1,51 +1,64 @@
 -- A field or a line, by its name and its values; and what the lists of them come to.
-use mathlib.Core.Bool.{Bool, true, false, not, or-false}
-use mathlib.Core.Path.{◌≡◌, refl, sym, ap, ap₂, ◌∙◌}
+use Rattle.std.specs.Prelude.{Option, Some, None, is_some, IfSome}
+use mathlib.Core.Bool.{Bool, true, false, or-false}
+use mathlib.Core.Path.{◌≡◌, refl, sym, ap, ap₂, ◌∙◌, subst}
 use mathlib.Core.List.{List, [], ◌∷◌}
 use Prim.Native.Nat.{ℕ, ◌+◌, ◌*◌, ◌≤◌}
 use native.Mathlib.Nat.{le_refl}
 use native.Mathlib.Omega.{arith}
 use lib.ListN.{length}
-use borrow.Author.Tests.{not-true, not-false}
 use Rattle.octets.specs.Lists.{pick, total}
 use Rattle.octets.proofs.Kept.{total_mono, total_const}
 use Rattle.pattern.specs.Inner.Answers.{meets_text}
+use Rattle.pattern.specs.declared.prepared.Prepared.{Prepared}
+use Rattle.trials.specs.Inner.Patterns.{content_bytes}
 use Rattle.contents.specs.Body.{Line}
 use Rattle.request.specs.Request.{Field}
 use Rattle.request.proofs.Few.{weight}
 use Rattle.trials.specs.Inner.Trying.{values_row, named_row, item_row, field_row, line_row}
 use Rattle.trials.specs.declared.Verdict.{Verdict}
 
+-- a pattern that is for texts alone, or for names alone
+pub met_as : (f g : Bool) → f ≡ g → (p t : List ℕ) (m : Bool) → m ≡ meets_text f p t → m ≡ meets_text g p t
+met_as f g e p t m em = em ∙ ap (λ (b : Bool). meets_text b p t) e
+
 -- ---- one item
 
-module _ (fold : Bool) (h : List ℕ) (with : Bool) (c name : List ℕ) (vs : List (List ℕ)) (m : Bool) (em : m ≡ meets_text fold h name) where
-  item_by : (a b : Bool) → m ≡ a → with ≡ b → named_row a b (values_row c vs) ≡ item_row fold h with c name vs
+module _ (fold : Bool) (h name : List ℕ) (vs : List (List ℕ)) (m : Bool) (em : m ≡ meets_text fold h name) where
+  item_by : (with : Bool) (c : List ℕ) (a b : Bool) → m ≡ a → with ≡ b → named_row a b (values_row c vs) ≡ item_row fold h with c name vs
   unfolding item_row
-  item_by a b ea eb = ap₂ (λ (x y : Bool). named_row x y (values_row c vs)) (sym ea ∙ em) (sym eb)
+  item_by with c a b ea eb = ap₂ (λ (x y : Bool). named_row x y (values_row c vs)) (sym ea ∙ em) (sym eb)
 
   none_tried : (w : Bool) → 1 + pick w 0 0 ≡ 1
   none_tried true = refl
   none_tried false = refl
 
-  pub item_no : not m ≡ true → ◌≡◌ {A = Verdict} (record { fits = false; trials = 1 }) (item_row fold h with c name vs)
-  item_no k = ap (λ (n : ℕ). record { fits = false; trials = n }) (sym (none_tried with)) ∙ item_by false with (not-true m k) refl
+  pub item_no : m ≡ false → (with : Bool) (c : List ℕ) → ◌≡◌ {A = Verdict} (record { fits = false; trials = 1 }) (item_row fold h with c name vs)
+  item_no k with c = ap (λ (n : ℕ). record { fits = false; trials = n }) (sym (none_tried with)) ∙ item_by with c false with k refl
 
-  module _ (k : not m ≡ false) where
-    pub item_bare : not with ≡ true → ◌≡◌ {A = Verdict} (record { fits = true; trials = 1 }) (item_row fold h with c name vs)
-    item_bare w = item_by true false (not-false m k) (not-true with w)
+  module _ (k : m ≡ true) (o : Option Prepared) where
+    pub item_bare : o ≡ None → ◌≡◌ {A = Verdict} (record { fits = true; trials = 1 }) (item_row fold h (is_some o) (content_bytes o) name vs)
+    item_bare e = item_by (is_some o) (content_bytes o) true false k (ap is_some e)
 
-    pub item_with : not with ≡ false → (v : Verdict) → v ≡ values_row c vs
-        → ◌≡◌ {A = Verdict} (record { fits = v.fits; trials = 1 + v.trials }) (item_row fold h with c name vs)
-    item_with w v ev = ap (λ (u : Verdict). record { fits = u.fits; trials = 1 + u.trials }) ev ∙ item_by true true (not-false m k) (not-false with w)
+    module _ (p : Prepared) (e : o ≡ Some p) where
+      -- its Content is matched as written
+      pub content_as : IfSome o (λ q. q.for_names ≡ false) → p.for_names ≡ false
+      content_as w = subst (λ (x : Option Prepared). IfSome x (λ q. q.for_names ≡ false)) e w
+
+      pub item_with : (v : Verdict) → v ≡ values_row p.bytes.now vs
+          → ◌≡◌ {A = Verdict} (record { fits = v.fits; trials = 1 + v.trials }) (item_row fold h (is_some o) (content_bytes o) name vs)
+      item_with v ev =
+          ap (λ (u : Verdict). record { fits = u.fits; trials = 1 + u.trials }) (ev ∙ ap (λ (x : Option Prepared). values_row (content_bytes x) vs) (sym e))
+          ∙ item_by (is_some o) (content_bytes o) true true k (ap is_some e)
 
 -- a line has one value
-module _ (h : List ℕ) (with : Bool) (c name value : List ℕ) (m : Bool) (em : m ≡ meets_text false h name) (k : not m ≡ false) where
-  pub item_one : not with ≡ false → (v : Bool) → v ≡ meets_text false c value
-      → ◌≡◌ {A = Verdict} (record { fits = v; trials = 2 }) (item_row false h with c name (value ∷ []))
-  unfolding values_row
-  item_one w v ev =
-      item_with false h with c name (value ∷ []) m em k w (record { fits = v; trials = 1 })
-      (ap (λ (b : Bool). record { fits = b; trials = 1 }) (ev ∙ sym (or-false (meets_text false c value))))
+pub item_one : (h name value : List ℕ) (m : Bool) → m ≡ meets_text false h name → m ≡ true → (o : Option Prepared) (p : Prepared) → o ≡ Some p
+    → (v : Bool) → v ≡ meets_text false p.bytes.now value
+    → ◌≡◌ {A = Verdict} (record { fits = v; trials = 2 }) (item_row false h (is_some o) (content_bytes o) name (value ∷ []))
+unfolding values_row
+item_one h name value m em k o p e v ev =
+    item_with false h name (value ∷ []) m em k o p e (record { fits = v; trials = 1 })
+    (ap (λ (b : Bool). record { fits = b; trials = 1 }) (ev ∙ sym (or-false (meets_text false p.bytes.now value))))
 
 -- ---- how many trials
 

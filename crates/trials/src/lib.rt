@@ -1,17 +1,20 @@
 // The fields of a request and the lines of its body against a row's prepared patterns. The definitions stand in specs/.
 #![tactic(auto)]
 
-ghost use Rattle.std.specs.Prelude.{◌≡◌, true, false, ◌∷◌, [], ◌≤◌, length};
-ghost use Rattle.pattern.specs.Inner.Prepared.{Ready};
+ghost use Rattle.std.specs.Prelude.{◌≡◌, true, false, ◌∷◌, [], ◌≤◌, length, is_some};
 ghost use Rattle.contents.specs.Body.{session_lines};
 ghost use Rattle.contents.specs.Inner.Places.{values_from};
 ghost use Rattle.contents.specs.Values.{reduced, values_of};
-ghost use Rattle.request.specs.Inner.Places.{request_of, Placed};
+ghost use Rattle.request.specs.Inner.Places.{request_of};
 ghost use Rattle.trials.specs.Inner.Trying.{values_row, item_row, field_row, line_row, all_rows, most_trials};
+ghost use Rattle.trials.specs.Inner.Patterns.{content_bytes};
 
+mod row_patterns;
+
+pub use crate::row_patterns::RowPatterns;
 use contents::BodyLine;
-use machine::Shape;
-use request::Places;
+use pattern::Prepared;
+use request::ReadableRequest;
 
 // Whether a row fits, and the trials it took.
 #[derive(Clone, Copy)]
@@ -23,25 +26,17 @@ pub struct Verdict {
 // ---- one field
 
 // The values that a reduced value is cut into. All are tried, also after one has matched.
-fn try_pieces(
-    v: &[u8],
-    c: &[u8],
-    shape: Shape,
-    sets: &[[u64; 4]; 60],
-    before: &[u64; 60],
-) -> Verdict
+fn try_pieces(v: &[u8], content: &Prepared<'_>) -> Verdict
     requires v_len_bound { length v.now ≤ 65535 }
-    requires ready { Ready false c.now shape sets.now before.now }
-    ensures { (result ≡ values_row c.now (values_from v.now 0)) × (result.trials ≤ 65536) }
+    requires written { content.now.for_names ≡ false }
+    ensures { (result ≡ values_row content.now.bytes.now (values_from v.now 0)) × (result.trials ≤ 65536) }
 {
     let mut fits = false;
     let mut trials: u32 = 0;
     let mut p: usize = 0;
     while p <= v.len() {
         let x = contents::next_value(v, p);
-        let a = x.start;
-        let e = x.end;
-        let m = pattern::test(shape, sets, before, &v[a..e]);
+        let m = content.meets(&v[x.start..x.end]);
         p = x.next;
         fits = fits | m;
         trials += 1;
@@ -50,61 +45,38 @@ fn try_pieces(
 }
 
 // The values of a field: its raw value is reduced into the lent room once, and cut unless its name says not.
-fn try_values(
-    name: &[u8],
-    raw: &[u8],
-    c: &[u8],
-    shape: Shape,
-    sets: &[[u64; 4]; 60],
-    before: &[u64; 60],
-    room: &mut [u8],
-) -> Verdict
+fn try_values(name: &[u8], raw: &[u8], content: &Prepared<'_>, room: &mut [u8]) -> Verdict
     requires raw_len_bound { (length raw.now ≤ 65535) × (length raw.now ≤ length room.old) }
-    requires ready { Ready false c.now shape sets.now before.now }
-    ensures { (result ≡ values_row c.now (values_of name.now (reduced raw.now))) × (result.trials ≤ 65536) }
+    requires written { content.now.for_names ≡ false }
+    ensures { (result ≡ values_row content.now.bytes.now (values_of name.now (reduced raw.now))) × (result.trials ≤ 65536) }
 {
     let n = contents::normalise(raw, room);
     if contents::never_cut(name) {
-        let m = pattern::test(shape, sets, before, &room[0..n]);
+        let m = content.meets(&room[0..n]);
         return Verdict { fits: m, trials: 1 };
     }
-    try_pieces(&room[0..n], c, shape, sets, before)
+    try_pieces(&room[0..n], content)
 }
 
-// A field: its name, as it is matched, and with Content its values. A prepared pattern goes by four parameters, its bytes and what
-// `pattern::load` made of them.
-fn try_field(
-    name: &[u8],
-    raw: &[u8],
-    h: &[u8],
-    h_shape: Shape,
-    h_sets: &[[u64; 4]; 60],
-    h_before: &[u64; 60],
-    with: bool,
-    c: &[u8],
-    c_shape: Shape,
-    c_sets: &[[u64; 4]; 60],
-    c_before: &[u64; 60],
-    room: &mut [u8],
-) -> Verdict
+// A field: its name, as it is matched, and with Content its values.
+fn try_field(name: &[u8], raw: &[u8], patterns: &RowPatterns<'_>, room: &mut [u8]) -> Verdict
     requires raw_len_bound { (length raw.now ≤ 65535) × (length raw.now ≤ length room.old) }
-    requires ready { Ready true h.now h_shape h_sets.now h_before.now }
-    requires ready_2 { Ready false c.now c_shape c_sets.now c_before.now }
-    ensures { (result ≡ item_row true h.now with c.now name.now (values_of name.now (reduced raw.now))) × (result.trials ≤ 65537) }
+    requires for_names { patterns.now.name.for_names ≡ true }
+    ensures { (result ≡ item_row true patterns.now.name.bytes.now (is_some patterns.now.content) (content_bytes patterns.now.content) name.now (values_of name.now (reduced raw.now))) × (result.trials ≤ 65537) }
 {
-    if !pattern::test(h_shape, h_sets, h_before, name) {
+    if !patterns.name.meets(name) {
         return Verdict {
             fits: false,
             trials: 1,
         };
     }
-    if !with {
+    let Some(content) = patterns.content else {
         return Verdict {
             fits: true,
             trials: 1,
         };
-    }
-    let v = try_values(name, raw, c, c_shape, c_sets, c_before, room);
+    };
+    let v = try_values(name, raw, &content, room);
     Verdict {
         fits: v.fits,
         trials: 1 + v.trials,
@@ -113,56 +85,23 @@ fn try_field(
 
 // A SIPHeader row: every field, by its name as it is matched.
 pub fn try_fields(
-    s: &[u8],
-    starts: &[u16],
-    colons: &[u16],
-    places: Places,
-    h: &[u8],
-    h_shape: Shape,
-    h_sets: &[[u64; 4]; 60],
-    h_before: &[u64; 60],
-    with: bool,
-    c: &[u8],
-    c_shape: Shape,
-    c_sets: &[[u64; 4]; 60],
-    c_before: &[u64; 60],
+    request: &ReadableRequest<'_>,
+    patterns: &RowPatterns<'_>,
     room: &mut [u8],
 ) -> Verdict
-    requires placed { Placed s.now starts.now colons.now places }
-    requires s_in_bounds { length s.now ≤ length room.old }
-    requires ready { Ready true h.now h_shape h_sets.now h_before.now }
-    requires ready_2 { Ready false c.now c_shape c_sets.now c_before.now }
-    ensures { (result ≡ all_rows (field_row h.now with c.now) (request_of s.now).fields) × (result.trials ≤ most_trials) }
+    requires room_for_each { length request.now.bytes.now ≤ length room.old }
+    requires for_names { patterns.now.name.for_names ≡ true }
+    ensures { (result ≡ all_rows (field_row patterns.now.name.bytes.now (is_some patterns.now.content) (content_bytes patterns.now.content)) (request_of request.now.bytes.now).fields) × (result.trials ≤ most_trials) }
 {
     let long = contents::long_names();
-    let fields = places.fields;
     let mut fits = false;
     let mut trials: u32 = 0;
-    let mut i: usize = 0;
-    while i < fields {
-        let f = request::field_at(s, starts, colons, places, i);
-        let a = f.name;
-        let b = f.stop;
-        let v = f.value;
-        let e = f.end;
-        let name = contents::as_matched(&s[a..b], &long);
-        let r = try_field(
-            name,
-            &s[v..e],
-            h,
-            h_shape,
-            h_sets,
-            h_before,
-            with,
-            c,
-            c_shape,
-            c_sets,
-            c_before,
-            room,
-        );
+    for i in 0..request.places.fields {
+        let field = request.field(i);
+        let name = contents::as_matched(field.name, &long);
+        let r = try_field(name, field.value, patterns, room);
         fits = fits | r.fits;
         trials += r.trials;
-        i += 1;
     }
     Verdict { fits, trials }
 }
@@ -170,56 +109,31 @@ pub fn try_fields(
 // ---- lines of the body
 
 // A line that is a field: its type and, with Content, its value, both as written.
-fn try_line(
-    kind: &[u8],
-    value: &[u8],
-    h: &[u8],
-    h_shape: Shape,
-    h_sets: &[[u64; 4]; 60],
-    h_before: &[u64; 60],
-    with: bool,
-    c: &[u8],
-    c_shape: Shape,
-    c_sets: &[[u64; 4]; 60],
-    c_before: &[u64; 60],
-) -> Verdict
-    requires ready { Ready false h.now h_shape h_sets.now h_before.now }
-    requires ready_2 { Ready false c.now c_shape c_sets.now c_before.now }
-    ensures { result ≡ item_row false h.now with c.now kind.now (value.now ∷ []) }
+fn try_line(kind: &[u8], value: &[u8], patterns: &RowPatterns<'_>) -> Verdict
+    requires { patterns.now.name.for_names ≡ false }
+    ensures { result ≡ item_row false patterns.now.name.bytes.now (is_some patterns.now.content) (content_bytes patterns.now.content) kind.now (value.now ∷ []) }
 {
-    if !pattern::test(h_shape, h_sets, h_before, kind) {
+    if !patterns.name.meets(kind) {
         return Verdict {
             fits: false,
             trials: 1,
         };
     }
-    if !with {
+    let Some(content) = patterns.content else {
         return Verdict {
             fits: true,
             trials: 1,
         };
-    }
-    let m = pattern::test(c_shape, c_sets, c_before, value);
+    };
+    let m = content.meets(value);
     Verdict { fits: m, trials: 2 }
 }
 
 // A SessionDescription row: every line of a body that is a field.
-pub fn try_lines(
-    body: &[u8],
-    h: &[u8],
-    h_shape: Shape,
-    h_sets: &[[u64; 4]; 60],
-    h_before: &[u64; 60],
-    with: bool,
-    c: &[u8],
-    c_shape: Shape,
-    c_sets: &[[u64; 4]; 60],
-    c_before: &[u64; 60],
-) -> Verdict
+pub fn try_lines(body: &[u8], patterns: &RowPatterns<'_>) -> Verdict
     requires body_len_bound { length body.now ≤ 65535 }
-    requires ready { Ready false h.now h_shape h_sets.now h_before.now }
-    requires ready_2 { Ready false c.now c_shape c_sets.now c_before.now }
-    ensures { (result ≡ all_rows (line_row h.now with c.now) (session_lines body.now)) × (result.trials ≤ most_trials) }
+    requires written { patterns.now.name.for_names ≡ false }
+    ensures { (result ≡ all_rows (line_row patterns.now.name.bytes.now (is_some patterns.now.content) (content_bytes patterns.now.content)) (session_lines body.now)) × (result.trials ≤ most_trials) }
 {
     let mut fits = false;
     let mut trials: u32 = 0;
@@ -239,20 +153,7 @@ pub fn try_lines(
                 end,
                 next,
             } => {
-                let after = start + 1;
-                let r = try_line(
-                    &body[start..after],
-                    &body[value..end],
-                    h,
-                    h_shape,
-                    h_sets,
-                    h_before,
-                    with,
-                    c,
-                    c_shape,
-                    c_sets,
-                    c_before,
-                );
+                let r = try_line(&body[start..start + 1], &body[value..end], patterns);
                 p = next;
                 fits = fits | r.fits;
                 trials += r.trials;

@@ -14,8 +14,8 @@ loop-next-smaller-in-Other c = search other_less
 pub loop-next-preserved-in-Other : goal.loop-next-preserved-in-Other
 loop-next-preserved-in-Other c = search lining_other
 
-pub overflow_add-after : goal.overflow_add-after
-overflow_add-after c = search (rules, type_room)
+pub overflow_add-start : goal.overflow_add-start
+overflow_add-start c = search (rules, type_room)
 
 pub slice_bounds-try_line-end : goal.slice_bounds-try_line-end
 slice_bounds-try_line-end c = search (rules, type_inside)
