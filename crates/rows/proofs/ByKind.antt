@@ -1,81 +1,57 @@
 -- A row by its kind, and its negation.
+use Rattle.std.specs.Prelude.{is_some}
 use mathlib.Core.Bool.{Bool, true, false, not, ◌&&◌}
 use mathlib.Core.Option.{some}
 use mathlib.Core.Path.{◌≡◌, refl, sym, ap, ap₂, ◌∙◌, subst}
 use mathlib.Core.List.{List}
-use Prim.Native.Nat.{ℕ, ◌+◌, ◌-◌, ◌*◌, ◌≤◌, ◌<◌}
-use native.Mathlib.Nat.{le_of_eq}
+use Prim.Native.Nat.{ℕ, ◌+◌, ◌*◌, ◌≤◌, ◌<◌}
 use native.Mathlib.Omega.{arith}
 use lib.Dec.{eqb}
-use lib.ListN.{length, take, drop, length-drop}
-use lib.Seq.{take_all}
 use borrow.Author.Tests.{eqb-false, eq-eqb, ne_eqb}
 use Rattle.octets.specs.Lists.{pick, same}
-use Rattle.machine.specs.declared.Shape.{Shape}
-use Rattle.pattern.specs.Inner.Prepared.{Ready}
 use Rattle.basic.specs.Reading.{read_pattern}
-use Rattle.profile.specs.Inner.Decoded.{stored_in, string_of, or_empty, pattern_of, or_absent, test_from, row_from}
+use Rattle.profile.specs.Inner.Decoded.{strings, string_of, or_empty, pattern_of, or_absent, test_from, row_from}
 use Rattle.profile.specs.Image.{Stored, Test, request_uri, method, header, session_case, description}
 use Rattle.profile.specs.Inner.Kept.{Standing, nth_row, ByPattern, Matchable}
 use Rattle.entries.specs.Inner.Places.{row_numbers}
 use Rattle.profile.specs.declared.Layout.{Layout}
 use Rattle.entries.specs.declared.Row.{Row}
-use Rattle.profile.proofs.Standings.{strings_in, row_matchable}
-use Rattle.cuts.specs.Inner.Parts.{part}
+use Rattle.profile.proofs.Standings.{row_matchable}
 use Rattle.contents.specs.Body.{Line, session_lines}
 use Rattle.request.specs.Request.{request_lines, Request}
-use Rattle.request.specs.Inner.Places.{request_of, Placed}
+use Rattle.request.specs.Inner.Places.{request_of}
 use Rattle.rows.specs.Rows.{registration_fits, test_fits, test_trials, row_fits, row_trials}
 use Rattle.rows.specs.declared.Given.{Given}
-use Rattle.rows.specs.Inner.Tried.{Spare, Tried}
-use Rattle.trials.specs.Inner.Trying.{field_row, line_row, all_rows, most_trials}
+use Rattle.rows.specs.Inner.Tried.{PatternsOf, Tried}
+use Rattle.trials.specs.Inner.Trying.{values_row, item_row, field_row, line_row, all_rows, most_trials}
+use Rattle.trials.specs.Inner.Patterns.{content_bytes}
+use Rattle.trials.specs.declared.row_patterns.RowPatterns.{RowPatterns}
 use Rattle.rows.specs.Inner.Trying.{one_trial, patterns_row, test_row}
-use Rattle.request.specs.declared.Places.{Places}
 use Rattle.trials.specs.declared.Verdict.{Verdict}
 use Rattle.rows.proofs.Patterns.{read_some, fields_as, lines_as}
-use Rattle.request.proofs.Readings.{method_is, uri_is, short, lines_are}
 
 -- ---- a row with patterns, over the body or the head
 
--- prepared for a name, unless it is the body that is searched
-module _ (h : List ℕ) (shape : Shape) (sets : List (List ℕ)) (before : List ℕ) (b : Bool) (r : Ready (not b) h shape sets before) where
-  pub ready_body : b ≡ true → Ready false h shape sets before
-  ready_body e = subst (λ (x : Bool). Ready (not x) h shape sets before) e r
-
-  pub ready_head : b ≡ false → Ready true h shape sets before
-  ready_head e = subst (λ (x : Bool). Ready (not x) h shape sets before) e r
-
--- what is read into the lent places leaves their number
-pub spare_read : (f g : Bool) (h c : List ℕ) (h_shape c_shape : Shape) (h_sets : List (List ℕ)) (h_before : List ℕ) (c_sets : List (List ℕ)) (c_before : List ℕ)
-    → Ready f h h_shape h_sets h_before → Ready g c c_shape c_sets c_before → Spare h_sets h_before c_sets c_before
-spare_read f g h c h_shape c_shape h_sets h_before c_sets c_before k l = record {
-  h_sets_room = k.room_sets;
-  h_before_room = k.room_before;
-  c_sets_room = l.room_sets;
-  c_before_room = l.room_before;
-}
-
-module _ (s starts colons : List ℕ) (p : Places) (k : Placed s starts colons p) where
-  abbrev pub rest : List ℕ
-  rest = take (length s - p.lines) (drop p.lines s)
-
-  pub rest_is : rest ≡ drop p.lines s
-  rest_is = take_all (length s - p.lines) (drop p.lines s) (le_of_eq (length-drop p.lines s))
-
-  pub lines_short : length rest ≤ 65535
-  lines_short = omega (arith, ap length rest_is, length-drop p.lines s, short s starts colons p k)
-
-  pub patterns_body : (b : Bool) (h : List ℕ) (with : Bool) (c : List ℕ) → b ≡ true → (v : Verdict) → v ≡ all_rows (line_row h with c) (session_lines rest)
-      → v ≡ patterns_row (request_of s) b h with c
-  unfolding patterns_row
-  patterns_body b h with c e v ev =
-      ev ∙ ap (λ (l : List Line). all_rows (line_row h with c) l) (ap session_lines rest_is ∙ lines_are s starts colons p k)
-      ∙ sym (ap (λ (t : Bool). patterns_row (request_of s) t h with c) e)
-
-pub patterns_head : (s : List ℕ) (b : Bool) (h : List ℕ) (with : Bool) (c : List ℕ) → b ≡ false → (v : Verdict)
-    → v ≡ all_rows (field_row h with c) (request_of s).fields → v ≡ patterns_row (request_of s) b h with c
+pub patterns_body : (s : List ℕ) (n : Bool) (h : List ℕ) (with : Bool) (c rest : List ℕ) → n ≡ false → session_lines rest ≡ request_lines (request_of s)
+    → (v : Verdict) → v ≡ all_rows (line_row h with c) (session_lines rest) → v ≡ patterns_row (request_of s) (not n) h with c
 unfolding patterns_row
-patterns_head s b h with c e v ev = ev ∙ sym (ap (λ (t : Bool). patterns_row (request_of s) t h with c) e)
+patterns_body s n h with c rest e l v ev =
+    ev ∙ ap (λ (x : List Line). all_rows (line_row h with c) x) l ∙ sym (ap (λ (t : Bool). patterns_row (request_of s) (not t) h with c) e)
+
+pub patterns_head : (s : List ℕ) (n : Bool) (h : List ℕ) (with : Bool) (c : List ℕ) → n ≡ true → (v : Verdict)
+    → v ≡ all_rows (field_row h with c) (request_of s).fields → v ≡ patterns_row (request_of s) (not n) h with c
+unfolding patterns_row
+patterns_head s n h with c e v ev = ev ∙ sym (ap (λ (t : Bool). patterns_row (request_of s) (not t) h with c) e)
+
+-- without Content its bytes are not looked at
+no_content : (q : Request) (b : Bool) (h c d : List ℕ) → patterns_row q b h false c ≡ patterns_row q b h false d
+unfolding patterns_row field_row line_row item_row values_row
+no_content q b h c d = refl
+
+content_free : (q : Request) (b : Bool) (h c d : List ℕ) (absent : Bool) → (absent ≡ false → c ≡ d)
+    → patterns_row q b h (not absent) c ≡ patterns_row q b h (not absent) d
+content_free q b h c d true e = no_content q b h c d
+content_free q b h c d false e = ap (patterns_row q b h true) (e refl)
 
 -- ---- the kinds
 
@@ -105,20 +81,17 @@ module _ (strs : List Stored) (r : Row) (q : Request) (g : Given) where
   unfolding test_row test_fits test_trials
   case_row e w ew v ev = ev ∙ ap (λ (n : ℕ). one_trial (eqb r.first n)) ew ∙ sym (ap (test_row q g) (kind_is strs r 3 e))
 
-module _ (s starts colons : List ℕ) (p : Places) (k : Placed s starts colons p) (strs : List Stored) (r : Row) (g : Given)
-    (t : List ℕ) (et : t ≡ (string_of strs r.first).bytes) (b : Bool) (v : Verdict) (ev : v ≡ one_trial b) where
-  pub uri_row : r.kind ≡ 0 → b ≡ same t (part s (p.method + 1) p.uri) → v ≡ test_row (request_of s) g (test_from strs r)
+module _ (q : Request) (strs : List Stored) (r : Row) (g : Given) (t x : List ℕ) (et : t ≡ (string_of strs r.first).bytes) (b : Bool) (v : Verdict)
+    (ev : v ≡ one_trial b) where
+  pub uri_row : r.kind ≡ 0 → x ≡ q.uri → b ≡ same t x → v ≡ test_row q g (test_from strs r)
   unfolding test_row test_fits test_trials
-  uri_row e eb =
-      ev ∙ ap one_trial (eb ∙ ap₂ same et (sym (uri_is s starts colons p k)))
-      ∙ sym (ap (test_row (request_of s) g) (kind_is strs r 0 e))
+  uri_row e ex eb = ev ∙ ap one_trial (eb ∙ ap₂ same et ex) ∙ sym (ap (test_row q g) (kind_is strs r 0 e))
 
-  pub method_row : r.kind ≡ 1 → b ≡ (same t (take (p.method - 0) s) && registration_fits t r.set g.registration)
-      → v ≡ test_row (request_of s) g (test_from strs r)
+  pub method_row : r.kind ≡ 1 → x ≡ q.method → b ≡ (same t x && registration_fits t r.set g.registration) → v ≡ test_row q g (test_from strs r)
   unfolding test_row test_fits test_trials
-  method_row e eb =
-      ev ∙ ap one_trial (eb ∙ ap₂ (λ (x y : List ℕ). same x y && registration_fits x r.set g.registration) et (method_is s starts colons p k))
-      ∙ sym (ap (test_row (request_of s) g) (kind_is strs r 1 e))
+  method_row e ex eb =
+      ev ∙ ap one_trial (eb ∙ ap₂ (λ (x y : List ℕ). same x y && registration_fits x r.set g.registration) et ex)
+      ∙ sym (ap (test_row q g) (kind_is strs r 1 e))
 
 -- the bytes of a row's patterns, and whether Content is absent
 abbrev pub first_text : List Stored → Row → List ℕ
@@ -159,21 +132,26 @@ module _ (strs : List Stored) (r : Row) (matchable : Matchable strs r) (not_case
         lines_as h c (or_empty (read_pattern h)) (or_empty (read_pattern c)) first_read (absent r) content_read (request_lines q)
         ∙ sym (ap (test_row q g) (test_is false e))
 
-    pub pattern_row : (t u : List ℕ) → t ≡ h → u ≡ c → (v : Verdict) → v ≡ patterns_row q (not (eqb r.kind 2)) t (not (eqb r.second 65535)) u
-        → v ≡ test_row q g (test_from strs r)
-    pattern_row t u et eu v ev =
-        ev ∙ ap₂ (λ (x y : List ℕ). patterns_row q (not (eqb r.kind 2)) x (not (absent r)) y) et eu ∙ kinds (eqb r.kind 2) refl
+    module _ (p : RowPatterns) (k : PatternsOf strs r p) where
+      by_bytes : (b : Bool) → patterns_row q b p.name.bytes.now (is_some p.content) (content_bytes p.content) ≡ patterns_row q b h (not (absent r)) c
+      by_bytes b =
+          ap₂ (λ (t : List ℕ) (w : Bool). patterns_row q b t w (content_bytes p.content)) k.name_is k.content.present
+          ∙ content_free q b h (content_bytes p.content) c (absent r) (λ e. k.content.named (eqb-false r.second 65535 e))
+
+      pub pattern_row : (v : Verdict) → v ≡ patterns_row q (not p.name.for_names) p.name.bytes.now (is_some p.content) (content_bytes p.content)
+          → v ≡ test_row q g (test_from strs r)
+      pattern_row v ev = ev ∙ by_bytes (not p.name.for_names) ∙ ap (λ (n : Bool). patterns_row q (not n) h (not (absent r)) c) k.for_names ∙ kinds (eqb r.kind 2) refl
 
 -- ---- row k of an image that stands, by the numbers that were read
 
 module _ (s table : List ℕ) (y : Layout) (stands : Standing s table y) (k : ℕ) (r : Row) (er : r ≡ row_numbers s (y.rows + 7 * k)) where
-  pub kth_matchable : k < y.row_count → Matchable (stored_in s y.strings table) r
-  kth_matchable h = subst (λ (strs : List Stored). Matchable strs r) (sym (strings_in s table y stands)) (subst (Matchable _) (sym er) (row_matchable s table y stands k h))
+  pub kth_matchable : k < y.row_count → Matchable (strings s) r
+  kth_matchable h = subst (Matchable (strings s)) (sym er) (row_matchable s table y stands k h)
 
-  module _ (q : Request) (g : Given) (v : Verdict) (ev : v ≡ test_row q g (test_from (stored_in s y.strings table) r)) (few : v.trials ≤ most_trials) where
+  module _ (q : Request) (g : Given) (v : Verdict) (ev : v ≡ test_row q g (test_from (strings s) r)) (few : v.trials ≤ most_trials) where
     kth_tested : v ≡ test_row q g (nth_row s y k).test
     unfolding row_from
-    kth_tested = ev ∙ ap₂ (λ (strs : List Stored) (x : Row). test_row q g (test_from strs x)) (strings_in s table y stands) er
+    kth_tested = ev ∙ ap (λ (x : Row). test_row q g (test_from (strings s) x)) er
 
     kth_fits : v.fits ≡ test_fits q g (nth_row s y k).test
     unfolding test_row
