@@ -1,6 +1,6 @@
 -- The memberships outside a trigger's rows may be left out at both ends: no order is asked of them.
 use mathlib.Core.Bool.{Bool, false}
-use mathlib.Core.Path.{◌≡◌, refl, sym, ap, ◌∙◌}
+use mathlib.Core.Path.{◌≡◌, refl, sym, ap, ◌∙◌, subst}
 use Prim.Native.Nat.{ℕ, zero, suc, ◌+◌, ◌-◌, ◌*◌, ◌<◌}
 use native.Mathlib.Omega.{arith}
 use mathlib.Core.List.{List, [], ◌∷◌, ◌++◌}
@@ -45,6 +45,9 @@ module _ (first count : ℕ) (s : List ℕ) (at n : ℕ) where
         same = sym (only_snoc_by (of_rows first count) (members_at s at (k - 1)) (member_from s (at + 4 * (k - 1))) (sym e ∙ f))
             ∙ sym (ap (only (of_rows first count)) (ap (members_at s at) j ∙ members_snoc s (k - 1) at)) ∙ w.same;
       }
+
+  pub back_same : (k j : ℕ) → SameRows first count s at n at k → k ≡ j → SameRows first count s at n at j
+  back_same k j w e = subst (SameRows first count s at n at) e w
 
   pub fits_there : (form mask a b n2 : ℕ) (r : Bool) → SameRows first count s at n (at + 4 * a) n2 → SameRows first count s (at + 4 * a) n2 (at + 4 * a) b
       → r ≡ fits_by form mask first count (members_at s (at + 4 * a) b) → r ≡ fits_by form mask first count (members_at s at n)

@@ -1,0 +1,5 @@
+use Rattle.fitting.specs.Inner.Trigger.{SameRows}
+use Rattle.fitting.proofs.trigger.Members.skip_back.Given as goal
+
+abbrev pub invariant-loop-i : goal.invariant-loop-i
+invariant-loop-i l = SameRows l.rows.first l.rows.count l.self.image.now l.self.at l.self.count l.self.at l.i
