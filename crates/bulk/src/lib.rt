@@ -2,7 +2,6 @@
 #![tactic(auto)]
 
 ghost use Rattle.std.specs.Prelude.{◌≡◌};
-ghost use Rattle.octets.specs.Lists.{pick};
 ghost use Rattle.bulk.specs.Bulk.{fits, ReportsTo};
 
 use session::{Session, report};
@@ -11,39 +10,20 @@ use session::{Session, report};
 fn lengths_fit(sessions: usize, reports: usize, refusals: usize) -> bool
     ensures { result ≡ fits sessions reports refusals }
 {
-    (sessions == reports) & (sessions == refusals) & (sessions <= 256)
-}
-
-// How many sessions are walked: none where the lengths are refused, so that the walk below has one way through.
-fn rounds(sessions: usize, reports: usize, refusals: usize) -> usize
-    ensures { result ≡ pick (fits sessions reports refusals) sessions 0 }
-{
-    if lengths_fit(sessions, reports, refusals) {
-        return sessions;
-    }
-    0
-}
-
-fn refusal(sessions: usize, reports: usize, refusals: usize) -> u32
-    ensures { result ≡ pick (fits sessions reports refusals) 0 17 }
-{
-    if lengths_fit(sessions, reports, refusals) {
-        return 0;
-    }
-    17
+    sessions == reports && sessions == refusals && sessions <= 256
 }
 
 // "Each session ends as the single call leaves it": that call itself, for one after the other.
 pub fn report_all(sessions: &mut [Session], reports: &[u32], refusals: &mut [u32]) -> u32
     ensures { ReportsTo sessions.old reports.now refusals.old result sessions.new refusals.new }
 {
-    let n = rounds(sessions.len(), reports.len(), refusals.len());
-    let mut i = 0;
-    while i < n {
-        let a = report(sessions[i], reports[i]);
-        sessions[i] = a.session;
-        refusals[i] = a.refusal;
-        i += 1;
+    if !lengths_fit(sessions.len(), reports.len(), refusals.len()) {
+        return 17;
     }
-    refusal(sessions.len(), reports.len(), refusals.len())
+    for (i, session) in sessions.iter_mut().enumerate() {
+        let a = report(*session, reports[i]);
+        *session = a.session;
+        refusals[i] = a.refusal;
+    }
+    0
 }

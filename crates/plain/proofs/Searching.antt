@@ -1,6 +1,7 @@
 -- The first place where the whole pattern fits.
 use mathlib.Core.Path.{◌≡◌, refl, sym, ap, ap₂, ◌∙◌, subst, subst⁻¹}
 use mathlib.Core.Bool.{Bool, true, false, ◌||◌, true≢false}
+use Rattle.std.specs.Prelude.{Some, None}
 use mathlib.Core.Option.{Option, none, some}
 use mathlib.Core.List.{List, [], ◌∷◌}
 use Prim.Native.Nat.{ℕ, suc, ◌+◌, ◌<◌, ◌≤◌}
@@ -21,17 +22,8 @@ use Rattle.place.specs.Place.{furthest, nowhere, here_or, first_place, place_of}
 use Rattle.place.specs.declared.Place.{Place}
 use Rattle.place.proofs.Placing.{place_is_best}
 use Rattle.plain.specs.Plain.{refused, answered, by_pattern, plain_answer}
-use Rattle.plain.specs.Inner.Turns.{Short, told, Reaches, from_place, Finds}
+use Rattle.plain.specs.Inner.Turns.{Short, Reaches, from_place, Finds}
 use Rattle.plain.specs.declared.Answer.{Answer}
-use Rattle.plain.specs.declared.Way.{Way}
-
--- ---- what is told
-
-told_yes : (x : Way) → x.found ≡ true → told x ≡ some x.size
-told_yes x e = ap (λ (t : Bool). pick t (some x.size) none) e
-
-told_no : (x : Way) → x.found ≡ false → told x ≡ none
-told_no x e = ap (λ (t : Bool). pick t (some x.size) none) e
 
 -- ---- at a place
 
@@ -67,18 +59,18 @@ further j q = go q.found q.start q.size
 
 -- ---- the search
 
-module _ (s : List ℕ) (i : ℕ) (t : List ℕ) (j : ℕ) (w : Short t j) (x : Way) (r : Reaches s i t j x) where
-  pub find_here : x.found ≡ true → (y : Answer) → y ≡ record { refusal = 0; found = true; start = j; size = x.size } → Finds s i t j y
-  find_here e y k = record {
+module _ (s : List ℕ) (i : ℕ) (t : List ℕ) (j : ℕ) (w : Short t j) where
+  pub find_here : (size : ℕ) → Reaches s i t j (Some size) → (y : Answer) → y ≡ record { refusal = 0; found = true; start = j; size = size } → Finds s i t j y
+  find_here size r y k = record {
     is = λ b z.
         let n : j ≡ j + 0 = omega arith in
-        k ∙ ap (λ (a : ℕ). record { refusal = 0; found = true; start = a; size = x.size }) n
-        ∙ ap (from_place j) (place_here (furthest meets b.anchored b.parts) (eqb i 1) (drop j t) x.size (sym (r.far true b z) ∙ told_yes x e));
+        k ∙ ap (λ (a : ℕ). record { refusal = 0; found = true; start = a; size = size }) n
+        ∙ ap (from_place j) (place_here (furthest meets b.anchored b.parts) (eqb i 1) (drop j t) size (sym (r.far true b z)));
   }
 
-  pub find_none : x.found ≡ false → (eqb i 1 || eqb j (length t)) ≡ true → (y : Answer) → y ≡ answered nowhere → Finds s i t j y
-  find_none e u y k = record {
-    is = λ b z. k ∙ ap (from_place j) (go b (sym (r.far true b z) ∙ told_no x e) (eqb i 1) u);
+  pub find_none : Reaches s i t j None → (eqb i 1 || eqb j (length t)) ≡ true → (y : Answer) → y ≡ answered nowhere → Finds s i t j y
+  find_none r u y k = record {
+    is = λ b z. k ∙ ap (from_place j) (go b (sym (r.far true b z)) (eqb i 1) u);
   }
     where
       go : (b : Body) → furthest meets b.anchored b.parts (drop j t) ≡ none → (v : Bool) → (v || eqb j (length t)) ≡ true
@@ -89,7 +81,7 @@ module _ (s : List ℕ) (i : ℕ) (t : List ℕ) (j : ℕ) (w : Short t j) (x : 
           let l : length t ≤ j = omega arith in
           place_last (furthest meets b.anchored b.parts) false (drop j t) (drop_of_length-le t l) o
 
-  module _ (e : x.found ≡ false) (u : (eqb i 1 || eqb j (length t)) ≡ false) where
+  module _ (r : Reaches s i t j None) (u : (eqb i 1 || eqb j (length t)) ≡ false) where
     pub find_in : j < length t
     find_in = let l : j ≤ length t = w.inside in let n = eqb-false j (length t) (or_neither (eqb i 1) (eqb j (length t)) u).1 in omega arith
 
@@ -100,7 +92,7 @@ module _ (s : List ℕ) (i : ℕ) (t : List ℕ) (j : ℕ) (w : Short t j) (x : 
           f.is b z
           ∙ ap (λ (v : Bool). from_place (j + 1) (places v (furthest meets b.anchored b.parts) (drop (j + 1) t))) alone
           ∙ further j (first_place (furthest meets b.anchored b.parts) (drop (j + 1) t))
-          ∙ ap (from_place j) (sym (later b (sym (r.far true b z) ∙ told_no x e)))
+          ∙ ap (from_place j) (sym (later b (sym (r.far true b z))))
           ∙ ap (λ (v : Bool). from_place j (places v (furthest meets b.anchored b.parts) (drop j t))) (sym alone);
     }
       where

@@ -1,6 +1,8 @@
 -- One turn of the plain matcher, on what is left of the pattern and of the text.
 use mathlib.Core.Path.{◌≡◌, refl, sym, ap, ap₂, ◌∙◌}
 use mathlib.Core.Bool.{Bool, true, false, ◌&&◌}
+use Rattle.std.specs.Prelude.{Option as Optional, Some, None}
+use Rattle.std.specs.Bool.{then_some}
 use mathlib.Core.Option.{Option, none, some, some-injective}
 use mathlib.Core.List.{List, [], ◌∷◌}
 use Prim.Native.Nat.{ℕ, ◌+◌, ◌-◌, ◌<◌, ◌≤◌}
@@ -18,10 +20,9 @@ use Rattle.basic.specs.Reading.{Read, Body, atom, elem}
 use Rattle.basic.specs.Inner.Places.{body_of}
 use Rattle.basic.proofs.Countdown.{body_next, body_none}
 use Rattle.place.specs.Place.{longer, one_more, single_far, repeated_far, furthest}
-use Rattle.plain.specs.Inner.Turns.{Tried, Short, told, Reaches}
+use Rattle.plain.specs.Inner.Turns.{Tried, Short, told, taken, Reaches}
 use Rattle.plain.specs.declared.Trial.{Trial}
-use Rattle.plain.specs.declared.Way.{Way}
-use Rattle.plain.proofs.Choices.{stretched, stretched_told, stretched_le, chosen, chosen_told, chosen_le}
+use Rattle.plain.proofs.Choices.{stretched_le, chosen_le}
 use Rattle.plain.proofs.Trying.{Came, came, drop_peek}
 
 longer_none : (o : Option ℕ) → o ≡ longer o none
@@ -94,14 +95,14 @@ taken_in t j w x u = ltb-true j (length t) (is_true (ltb j (length t)) (left (lt
 pub short_more : (t : List ℕ) (j : ℕ) → Short t j → j < length t → Short t (j + 1)
 short_more t j w h = record { inside = omega arith; limit = w.limit }
 
-pub short_way : (s : List ℕ) (i : ℕ) (t : List ℕ) (j : ℕ) (x : Way) → Short t j → Reaches s i t (j + 1) x → x.size < 256
+pub short_way : (s : List ℕ) (i : ℕ) (t : List ℕ) (j : ℕ) (x : Optional ℕ) → Short t j → Reaches s i t (j + 1) x → taken x < 256
 short_way s i t j x w r = let a = r.inside in let b = w.limit in omega arith
 
 -- ---- the end of the pattern
 
 module _ (s : List ℕ) (i : ℕ) (t : List ℕ) (j : ℕ) (w : Short t j) where
   -- nothing is left but perhaps the anchor
-  ended : (x : Way) (end : Bool) → ((first : Bool) → body_of first (drop i s) ≡ some (record { parts = []; anchored = end })) → x.size ≡ 0
+  ended : (x : Optional ℕ) (end : Bool) → ((first : Bool) → body_of first (drop i s) ≡ some (record { parts = []; anchored = end })) → taken x ≡ 0
       → told x ≡ furthest meets end [] (drop j t) → Reaches s i t j x
   ended x end f z g = record {
     inside = let l = w.inside in omega arith;
@@ -109,10 +110,10 @@ module _ (s : List ℕ) (i : ℕ) (t : List ℕ) (j : ℕ) (w : Short t j) where
         g ∙ ap (λ (c : Body). furthest meets c.anchored c.parts (drop j t)) (some-injective _ _ (sym (f first) ∙ y));
   }
 
-  pub reach_done : length s ≤ i → (x : Way) → x ≡ record { found = true; size = 0 } → Reaches s i t j x
+  pub reach_done : length s ≤ i → (x : Optional ℕ) → x ≡ Some 0 → Reaches s i t j x
   unfolding furthest
   reach_done h x e =
-      ended x false (λ first. ap (body_of first) (drop_of_length-le s h) ∙ body_none first) (ap (λ (y : Way). y.size) e) (ap told e)
+      ended x false (λ first. ap (body_of first) (drop_of_length-le s h) ∙ body_none first) (ap taken e) (ap told e)
 
   module _ (h : i < length s) where
     abbrev b : ℕ
@@ -137,11 +138,19 @@ module _ (s : List ℕ) (i : ℕ) (t : List ℕ) (j : ℕ) (w : Short t j) where
     anchor_at : (v : ℕ) → v ≡ b → (u : Bool) → (eqb v 36 && eqb (i + 1) (length s)) ≡ u → (eqb b 36 && eqb (i + 1) (length s)) ≡ u
     anchor_at v y u e = ap (λ (k : ℕ). eqb k 36 && eqb (i + 1) (length s)) (sym y) ∙ e
 
-    pub reach_anchor : (v : ℕ) → v ≡ b → (eqb v 36 && eqb (i + 1) (length s)) ≡ true → (x : Way) → x ≡ record { found = eqb j (length t); size = 0 } → Reaches s i t j x
+    pub reach_anchor : (v : ℕ) → v ≡ b → (eqb v 36 && eqb (i + 1) (length s)) ≡ true → (x : Optional ℕ) → x ≡ then_some (eqb j (length t)) 0 → Reaches s i t j x
     unfolding furthest
     reach_anchor v y e x q =
-        ended x true (λ first. body_here first true (anchor_at v y true e)) (ap (λ (y : Way). y.size) q)
-        (ap told q ∙ ap (λ (u : Bool). pick u (some 0) none) (sym (empty_at t j w.inside)))
+        ended x true (λ first. body_here first true (anchor_at v y true e)) (ap taken q ∙ nothing (eqb j (length t)))
+        (ap told q ∙ told_cond (eqb j (length t)) ∙ ap (λ (u : Bool). pick u (some 0) none) (sym (empty_at t j w.inside)))
+      where
+        nothing : (u : Bool) → taken (then_some u 0) ≡ 0
+        nothing true = refl
+        nothing false = refl
+
+        told_cond : (u : Bool) → told (then_some u 0) ≡ pick u (some 0) none
+        told_cond true = refl
+        told_cond false = refl
 
     -- ---- an element and what is left behind it
 
@@ -188,27 +197,27 @@ module _ (s : List ℕ) (i : ℕ) (t : List ℕ) (j : ℕ) (w : Short t j) where
       module _ (n : ℕ) (l : n ≡ peek (drop r.end s)) where
         -- once
         module _ (m : n ≡ 42 → ⊥) where
-          once_far : (x : Way) → ((a : Atom) (c : Body) → takes t j a false [] ≡ took → body_of false (drop r.end s) ≡ some c → told x ≡ furthest meets c.anchored (once a ∷ c.parts) (drop j t))
+          once_far : (x : Optional ℕ) → ((a : Atom) (c : Body) → takes t j a false [] ≡ took → body_of false (drop r.end s) ≡ some c → told x ≡ furthest meets c.anchored (once a ∷ c.parts) (drop j t))
               → (first : Bool) (c : Body) → body_of first (drop i s) ≡ some c → told x ≡ furthest meets c.anchored c.parts (drop j t)
           once_far x f first c z =
               let p = behind false (ap (λ (a : ℕ). eqb a 42) (sym l) ∙ ne_eqb n 42 m) r.end refl first c z in
               f p.value p.more (takes_is p.value p.takes) p.left ∙ ap (λ (d : Body). furthest meets d.anchored d.parts (drop j t)) p.is
 
-          pub reach_fail : took ≡ false → (x : Way) → x ≡ record { found = false; size = 0 } → Reaches s i t j x
+          pub reach_fail : took ≡ false → (x : Optional ℕ) → x ≡ None → Reaches s i t j x
           reach_fail u x q = record {
-            inside = let l = w.inside in let z = ap (λ (a : Way). a.size) q in omega arith;
+            inside = let l = w.inside in let z = ap taken q in omega arith;
             far = once_far x (λ a c o z. ap told q ∙ sym (single_fails t j a c.anchored c.parts (o ∙ u)));
           }
 
-          pub reach_once : took ≡ true → (z : Way) → Reaches s r.end t (j + 1) z → (x : Way) → x ≡ stretched z → Reaches s i t j x
+          pub reach_once : took ≡ true → (z : Optional ℕ) → Reaches s r.end t (j + 1) z → (x : Optional ℕ) → told x ≡ one_more (told z) → Reaches s i t j x
           reach_once u z f x q = record {
             inside = let l = f.inside in omega (arith, stretched_le x z q);
-            far = once_far x (λ a c o p. stretched_told x z q ∙ ap one_more (f.far false c p) ∙ sym (single_takes t j a c.anchored c.parts (o ∙ u)));
+            far = once_far x (λ a c o p. q ∙ ap one_more (f.far false c p) ∙ sym (single_takes t j a c.anchored c.parts (o ∙ u)));
           }
 
         -- repeated
-        module _ (m : n ≡ 42) (o : Way) (f : Reaches s (r.end + 1) t j o) where
-          star_far : (x : Way) → ((first : Bool) (a : Atom) (c : Body) → takes t j a false [] ≡ took
+        module _ (m : n ≡ 42) (o : Optional ℕ) (f : Reaches s (r.end + 1) t j o) where
+          star_far : (x : Optional ℕ) → ((first : Bool) (a : Atom) (c : Body) → takes t j a false [] ≡ took
               → body_of first (drop i s) ≡ some (record { parts = star a ∷ c.parts; anchored = c.anchored })
               → told o ≡ furthest meets c.anchored c.parts (drop j t) → told x ≡ furthest meets c.anchored (star a ∷ c.parts) (drop j t))
               → (first : Bool) (c : Body) → body_of first (drop i s) ≡ some c → told x ≡ furthest meets c.anchored c.parts (drop j t)
@@ -223,14 +232,15 @@ module _ (s : List ℕ) (i : ℕ) (t : List ℕ) (j : ℕ) (w : Short t j) where
             far = star_far o (λ first a c p z q. q ∙ sym (repeated_fails t j a c.anchored c.parts (p ∙ u)));
           }
 
-          pub reach_both : took ≡ true → (z : Way) → Reaches s i t (j + 1) z → (z' : Way) → z' ≡ stretched z → (x : Way) → x ≡ chosen o z' → Reaches s i t j x
+          pub reach_both : took ≡ true → (z : Optional ℕ) → Reaches s i t (j + 1) z → (z' : Optional ℕ) → told z' ≡ one_more (told z) → (x : Optional ℕ) → told x ≡ longer (told o) (told z')
+              → Reaches s i t j x
           reach_both u z on z' q x p = record {
             inside =
                 let a = f.inside in let b' = on.inside in
-                let top : x.size ≤ length t - j = chosen_le x o z' (length t - j) p (omega arith) (omega (arith, stretched_le z' z q)) in
+                let top : taken x ≤ length t - j = chosen_le x o z' (length t - j) p (omega arith) (omega (arith, stretched_le z' z q)) in
                 let in_text = w.inside in
                 omega arith;
             far = star_far x (λ first a c d whole left.
-                chosen_told x o z' p ∙ ap₂ longer left (stretched_told z' z q ∙ ap one_more (on.far first (record { parts = star a ∷ c.parts; anchored = c.anchored }) whole))
+                p ∙ ap₂ longer left (q ∙ ap one_more (on.far first (record { parts = star a ∷ c.parts; anchored = c.anchored }) whole))
                 ∙ sym (repeated_takes t j a c.anchored c.parts (d ∙ u)));
           }

@@ -6,11 +6,12 @@
 // The bytes are 36 `$`, 42 `*`, 45 `-`, 46 `.`, 91 `[`, 92 `\`, 93 `]`, 94 `^`.
 #![tactic(auto)]
 
-ghost use Rattle.std.specs.Prelude.{◌≡◌, not, ◌&&◌, ◌||◌, ◌+◌, ◌≤◌, ◌<◌, ltb, length, drop};
+ghost use Rattle.std.specs.Prelude.{◌≡◌, ◌+◌, ◌≤◌, ◌<◌, length, drop};
 ghost use Rattle.octets.specs.Lists.{pick};
 ghost use Rattle.basic.specs.Reading.{range_opens};
 ghost use Rattle.plain.specs.Plain.{Plains};
-ghost use Rattle.plain.specs.Inner.Turns.{Short, Ranged, Tried, Reaches, Finds};
+ghost use Rattle.place.specs.Place.{one_more, longer};
+ghost use Rattle.plain.specs.Inner.Turns.{Short, Ranged, Tried, Reaches, Finds, told, taken};
 
 use basic::{is_pattern, peek_at};
 use octets::to_long;
@@ -24,13 +25,6 @@ pub struct Answer {
     pub size: u32,
 }
 
-// Whether what is left of the pattern fits here, and how many bytes it takes at most.
-#[derive(Clone, Copy)]
-pub struct Way {
-    pub found: bool,
-    pub size: usize,
-}
-
 // Whether an element without its `*` takes a byte, and where it ends in the pattern.
 #[derive(Clone, Copy)]
 pub struct Trial {
@@ -38,25 +32,22 @@ pub struct Trial {
     pub end: usize,
 }
 
-fn as_way(found: bool, size: usize) -> Way
-    ensures { result ≡ record { found = found; size = size } }
+// One byte more.
+fn one_more(way: Option<usize>) -> Option<usize>
+    requires { taken way < 256 }
+    ensures { told result ≡ one_more (told way) }
 {
-    Way { found, size }
+    Some(way? + 1)
 }
 
-fn as_trial(takes: bool, end: usize) -> Trial
-    ensures { result ≡ record { takes = takes; end = end } }
+fn longer(a: Option<usize>, b: Option<usize>) -> Option<usize>
+    ensures { told result ≡ longer (told a) (told b) }
 {
-    Trial { takes, end }
-}
-
-fn longer(a: Way, b: Way) -> Way
-    ensures { result ≡ pick (a.found && (not b.found || ltb b.size a.size)) a b }
-{
-    if a.found & (!b.found | (b.size < a.size)) {
-        return a;
+    match (a, b) {
+        (Some(m), Some(n)) => Some(m.max(n)),
+        (None, _) => b,
+        (_, None) => a,
     }
-    b
 }
 
 // Where a list has the last byte of what begins at i: two on where a `-` makes it a range, as it does unless `]` follows.
@@ -81,14 +72,20 @@ fn try_list(p: &[u8], from: usize, c: u16) -> Trial
     while i < p.len() {
         let low = peek_at(p, i);
         if (low == 93) & (from < i) {
-            return as_trial(has, i + 1);
+            return Trial {
+                takes: has,
+                end: i + 1,
+            };
         }
         let last = last_at(p, i);
         let high = peek_at(p, last);
-        has = has | ((low <= c) & (c <= high));
+        has |= (low <= c) & (c <= high);
         i = last + 1;
     }
-    as_trial(false, i)
+    Trial {
+        takes: false,
+        end: i,
+    }
 }
 
 // The element at i on the byte c: a `\` says that the next byte stands for itself, and neither `.` nor a list with `^` ever takes byte 0.
@@ -96,50 +93,58 @@ fn try_one(p: &[u8], i: usize, c: u16) -> Trial
     requires { i < length p.now }
     ensures { Tried p.now i c result }
 {
-    let b = peek_at(p, i);
     let next = peek_at(p, i + 1);
-    if b == 46 {
-        return as_trial(c != 0, i + 1);
+    match peek_at(p, i) {
+        46 => Trial {
+            takes: c != 0,
+            end: i + 1,
+        },
+        92 => Trial {
+            takes: next == c,
+            end: i + 2,
+        },
+        91 if next == 94 => {
+            let list = try_list(p, i + 2, c);
+            Trial {
+                takes: (c != 0) & !list.takes,
+                end: list.end,
+            }
+        }
+        91 => try_list(p, i + 1, c),
+        b => Trial {
+            takes: b == c,
+            end: i + 1,
+        },
     }
-    if b == 92 {
-        return as_trial(next == c, i + 2);
-    }
-    if b != 91 {
-        return as_trial(b == c, i + 1);
-    }
-    if next != 94 {
-        return try_list(p, i + 1, c);
-    }
-    let list = try_list(p, i + 2, c);
-    as_trial((c != 0) & !list.takes, list.end)
 }
 
-// How far the pattern from i on reaches in the text from j on: its element takes the byte at j or, where a `*` follows it, is left out.
-fn reach(p: &[u8], i: usize, text: &[u8], j: usize) -> Way
+// How many bytes the pattern from i on takes at most of the text from j on, if it fits there: its element takes the byte at j or, where a
+// `*` follows it, is left out.
+fn reach(p: &[u8], i: usize, text: &[u8], j: usize) -> Option<usize>
     requires { Short text.now j }
     ensures { Reaches p.now i text.now j result }
 {
     if p.len() <= i {
-        return as_way(true, 0);
+        return Some(0);
     }
     if (peek_at(p, i) == 36) & (i + 1 == p.len()) {
-        return as_way(j == text.len(), 0);
+        return (j == text.len()).then_some(0);
     }
     let one = try_one(p, i, peek_at(text, j));
     let takes = (j < text.len()) & one.takes;
     if peek_at(p, one.end) != 42 {
         if !takes {
-            return as_way(false, 0);
+            return None;
         }
         let on = reach(p, one.end, text, j + 1);
-        return as_way(on.found, on.size + 1);
+        return one_more(on);
     }
     let without = reach(p, one.end + 1, text, j);
     if !takes {
         return without;
     }
     let on = reach(p, i, text, j + 1);
-    longer(without, as_way(on.found, on.size + 1))
+    longer(without, one_more(on))
 }
 
 fn tell(refusal: u32, found: bool, start: usize, size: usize) -> Answer
@@ -159,9 +164,8 @@ fn search(p: &[u8], i: usize, text: &[u8], j: usize) -> Answer
     requires { Short text.now j }
     ensures { Finds p.now i text.now j result }
 {
-    let r = reach(p, i, text, j);
-    if r.found {
-        return tell(0, true, j, r.size);
+    if let Some(size) = reach(p, i, text, j) {
+        return tell(0, true, j, size);
     }
     if (i == 1) | (j == text.len()) {
         return tell(0, false, 0, 0);

@@ -1,13 +1,14 @@
 -- Of the words of a point at most one stands at the front of a text: the loop that looks for it.
 use mathlib.Core.Path.{◌≡◌, refl, sym, ap, ap₂, ◌∙◌, subst, subst⁻¹}
 use mathlib.Core.Bool.{Bool, true, ◌&&◌, ◌||◌}
-use Prim.Native.Nat.{ℕ, zero, suc, ◌+◌, ◌-◌, ◌≤◌, ◌<◌}
+use Prim.Native.Nat.{ℕ, zero, suc, ◌+◌, ◌-◌, ◌≤◌, ◌<◌, max}
 use native.Mathlib.Numerals.{add-one}
 use native.Mathlib.Omega.{arith}
 use mathlib.Core.List.{List}
-use lib.Dec.{T, leb, eqb, leb→le, eqb→eq}
+use borrow.Author.Tests.{ltb-true, ltb-false}
+use lib.Dec.{T, leb, ltb, eqb, leb→le, eqb→eq}
 use lib.ListN.{length, get_or, drop}
-use Rattle.octets.proofs.Tests.{left, right, or_cases}
+use Rattle.octets.proofs.Tests.{left, right, or_cases, test_cases}
 use mathlib.Core.Logic.{⊎_elim}
 use native.Mathlib.Nat.{eq-or-lt_of_le}
 use Rattle.octets.proofs.Table as table
@@ -16,7 +17,7 @@ use Rattle.grammar.specs.Inner.Made.{shifted}
 use Rattle.scan.specs.Inner.Rests.{Ahead}
 use Rattle.scan.specs.Inner.Points.{firsts, starts, nexts, letters, word_at, common, choices, first_word, word_count, Found, Missing}
 use Rattle.grammar.proofs.Better.{better_none, none_better, better_assoc}
-use Rattle.grammar.proofs.Shifted.{larger_under, shifted_wins, wins_shifted}
+use Rattle.grammar.proofs.Shifted.{larger_less, larger_more, larger_under, shifted_wins, wins_shifted}
 use Rattle.scan.proofs.Words.{expect_miss, expect_whole, apart, off, Off, common_le}
 use Rattle.scan.proofs.Lettered.{word_long}
 
@@ -117,6 +118,12 @@ module _ {R : Type 0} (k : ℕ → List ℕ → Read R) (t : List ℕ) (j : ℕ)
 
 -- ---- the loop
 
+max_larger : (m n : ℕ) → max m n ≡ larger m n
+max_larger m n =
+    test_cases (ltb m n)
+    (λ e. let h : m < n = ltb-true m n e in let top : max m n ≡ n = omega arith in top ∙ larger_less m n h)
+    (λ e. let h : n ≤ m = ltb-false m n e in let top : max m n ≡ m = omega arith in top ∙ larger_more m n h)
+
 pub record Choosing (q : ℕ) (t : List ℕ) (end best j : ℕ) : Type 0 where
   pub point_is : q < 42
   pub from : first_word q ≤ j
@@ -173,9 +180,9 @@ module _ (q : ℕ) (t : List ℕ) (end best j : ℕ) (c : Choosing q t end best 
       }
 
   pub choosing_next : j < end → (from to r b : ℕ) → from ≡ get_or starts j 0 → to ≡ get_or starts (j + 1) 0 → r ≡ common (word_at j) t → (r ≡ to - from → ⊥)
-      → b ≡ larger best r → Choosing q t end b (j + 1)
+      → b ≡ max best r → Choosing q t end b (j + 1)
   unfolding choices
-  choosing_next h from to r b f g e x l = record {
+  choosing_next h from to r b f g e x top = let l : b ≡ larger best r = top ∙ max_larger best r in record {
     point_is = c.point_is;
     from = omega (arith, c.from);
     upto = omega (arith, h);

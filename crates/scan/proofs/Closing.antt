@@ -93,9 +93,3 @@ module _ (comment : Bool) (s : List ℕ) (at q p i : ℕ) (c : Closing comment s
     same = λ k. more h t e k
         ∙ ap (λ (x : Bool). shifted (i + 1 - at) (pick x (k (drop (i + 1) s)) (up_to w (get_or s i 0 ∷ c.passed) k (drop (i + 1) s)))) f;
   }
-
-pub ends_comment : (comment : Bool) (q p b : ℕ) → comment ≡ true → (eqb 62 b && (eqb 45 p && eqb 45 q)) ≡ ends_by comment q p b
-ends_comment c q p b e = rw e
-
-pub ends_other : (comment : Bool) (q p b : ℕ) → comment ≡ false → (eqb 62 b && eqb 63 p) ≡ ends_by comment q p b
-ends_other c q p b e = rw e

@@ -15,6 +15,8 @@ use Rattle.grammar.specs.Reading.{wrong, later, better, expect, expect_one}
 use Rattle.grammar.specs.Inner.Made.{Only, shifted, forget}
 use Rattle.grammar.proofs.Sound.{sound}
 use Rattle.scan.specs.Table.{blank, digit}
+use Rattle.scan.specs.declared.scanner.Kind.TheVariants.{Digit}
+use Rattle.scan.proofs.Runs.{blank_apart}
 use Rattle.scan.specs.Inner.Points.{firsts, starts, nexts, letters, word_at, choices, first_word, word_count, class_of, run, kind_of}
 use Rattle.scan.specs.Inner.Rests.{pass, at_end, plainly}
 use Rattle.scan.specs.Inner.Turns.{by_words}
@@ -86,11 +88,11 @@ abbrev pub passed : ℕ → List ℕ → ℕ
 passed q t = run (class_of (kind_of q)) t
 
 pub record Law (q : ℕ) : Type 0 where
-  pub leads : (t : List ℕ) → (kind_of q ≡ 1 → digit (get_or t 0 0) ≡ true) → plainly q t ≡ shifted (passed q t) (behind q (drop (passed q t) t))
-  pub refuses : (t : List ℕ) → kind_of q ≡ 1 → digit (get_or t 0 0) ≡ false → plainly q t ≡ wrong 0
+  pub leads : (t : List ℕ) → (kind_of q ≡ Digit → digit (get_or t 0 0) ≡ true) → plainly q t ≡ shifted (passed q t) (behind q (drop (passed q t) t))
+  pub refuses : (t : List ℕ) → kind_of q ≡ Digit → digit (get_or t 0 0) ≡ false → plainly q t ≡ wrong 0
 
 -- a point that passes over blanks or text
-pub many_law : (q : ℕ) → q < 42 → (p : ℕ → Bool) → T (sound (one p)) → class_of (kind_of q) ≡ p → (kind_of q ≡ 1 → ⊥) → eqb q 0 ≡ false
+pub many_law : (q : ℕ) → q < 42 → (p : ℕ → Bool) → T (sound (one p)) → class_of (kind_of q) ≡ p → (kind_of q ≡ Digit → ⊥) → eqb q 0 ≡ false
     → ((s : List ℕ) → plainly q s ≡ pass (many (one p)) (by_words q) s) → Law q
 many_law q h p sp c n z e = record {
   leads = λ t d.
@@ -118,7 +120,7 @@ number_never : (q : ℕ) → ((s : List ℕ) → plainly q s ≡ expect_one digi
 number_never q e [] d = e []
 number_never q e (b ∷ t) d = e (b ∷ t) ∙ ap (λ (x : Bool). pick x (later (pass (many (one digit)) (by_words q) t)) (wrong 0)) d
 
-pub number_law : (q : ℕ) → q < 42 → class_of (kind_of q) ≡ digit → eqb q 0 ≡ false → kind_of q ≡ 1
+pub number_law : (q : ℕ) → q < 42 → class_of (kind_of q) ≡ digit → eqb q 0 ≡ false → kind_of q ≡ Digit
     → ((s : List ℕ) → plainly q s ≡ expect_one digit (λ b. pass (many (one digit)) (by_words q)) s) → Law q
 number_law q h c z k e = record {
   leads = λ t d.
@@ -136,5 +138,5 @@ pub top_law : ((s : List ℕ) → plainly 0 s ≡ pass (many (one blank)) (λ u.
 unfolding sound
 top_law e = record {
   leads = λ t d. e t ∙ pass_run blank tt (λ u. better (by_words 0 u) (forget (at_end u))) shut_top t;
-  refuses = λ t k. absurd (omega (arith, k));
+  refuses = λ t k. absurd (blank_apart k);
 }

@@ -101,8 +101,8 @@ module _ (s : List ℕ) (at j from to n left i : ℕ) (r : ReachAt s at j from t
   pub reach_short : left ≤ i → i ≡ common (word_at j) (drop at s)
   reach_short h = reaching_short (word_at j) (drop at s) i r.reaching (rw text_is h)
 
-  pub reach_end : n ≤ i → i ≡ common (word_at j) (drop at s)
-  reach_end h = reaching_whole (word_at j) (drop at s) i r.reaching (rw word_is h)
+  pub reach_end : n ≤ i → i ≤ n → n ≡ common (word_at j) (drop at s)
+  reach_end h l = let e : n ≡ i = omega arith in e ∙ reaching_whole (word_at j) (drop at s) i r.reaching (rw word_is h)
 
   pub reach_other : i < n → i < left → (a : ℕ) → a ≡ get_or letters (from + i) 0 → (a ≡ get_or s (at + i) 0 → ⊥) → i ≡ common (word_at j) (drop at s)
   reach_other h l a e d =

@@ -1,23 +1,28 @@
 -- The bytes that a point passes over.
 use mathlib.Core.Path.{◌≡◌, refl, sym, ap, ◌∙◌}
 use mathlib.Core.Bool.{Bool, true, false, not}
+use native.Mathlib.Omega.{arith}
 use Prim.Native.Nat.{ℕ, ◌+◌, ◌≤◌, ◌<◌}
 use mathlib.Core.List.{List}
 use lib.ListN.{length, get_or, drop}
 use lib.Seq.{drop-cons}
-use borrow.Author.Tests.{eq-eqb, ne_eqb, lt-ltb, le-ltb}
-use Rattle.scan.specs.Table.{blank, digit, plain}
-use Rattle.scan.specs.Inner.Points.{class_of, outside, run, kind_of}
+use borrow.Author.Tests.{lt-ltb, le-ltb}
+use Rattle.scan.specs.Inner.Points.{outside, run, kind_of}
+use Rattle.scan.specs.declared.scanner.Kind.{Kind}
+use Rattle.scan.specs.declared.scanner.Kind.TheVariants.{Blank, Digit, Text}
 use Rattle.cuts.proofs.Search.{Came, came_next, came_found, came_end}
 
-pub class_blank : (kind b : ℕ) → kind ≡ 0 → blank b ≡ class_of kind b
-class_blank kind b e = rw (eq-eqb kind 0 e)
+pub blank_apart : Blank ≡ Digit → ⊥
+blank_apart e = cc
 
-pub class_digit : (kind b : ℕ) → (kind ≡ 0 → ⊥) → kind ≡ 1 → digit b ≡ class_of kind b
-class_digit kind b n e = rw (ne_eqb kind 0 n, eq-eqb kind 1 e)
+pub text_apart : Text ≡ Digit → ⊥
+text_apart e = cc
 
-pub class_plain : (kind b : ℕ) → (kind ≡ 0 → ⊥) → (kind ≡ 1 → ⊥) → plain b ≡ class_of kind b
-class_plain kind b n m = rw (ne_eqb kind 0 n, ne_eqb kind 1 m)
+-- a number's digits, or other bytes
+pub digit_cases {ℓ} : {X : Type ℓ} (k : Kind) → (k ≡ Digit → X) → ((k ≡ Digit → ⊥) → X) → X
+digit_cases Blank f g = g blank_apart
+digit_cases Digit f g = f refl
+digit_cases Text f g = g text_apart
 
 -- ---- the loop that passes over bytes of a set: it looks for the first that is none
 
@@ -31,8 +36,8 @@ module _ (p : ℕ → Bool) (s : List ℕ) (at : ℕ) where
   test_at : (i : ℕ) → i < length s → outside p (drop i s) ≡ not (p (get_or s i 0))
   test_at i h = rw (drop-cons s i 0 h)
 
-  pub running_end : (i : ℕ) → Running i → length s ≤ i → i ≡ at + run p (drop at s)
-  running_end i r h = came_end (outside p) s (at + run p (drop at s)) i r h
+  pub running_end : (i : ℕ) → Running i → length s ≤ i → length s ≡ at + run p (drop at s)
+  running_end i r h = let e : length s ≡ i = omega (arith, r.inside) in e ∙ came_end (outside p) s (at + run p (drop at s)) i r h
 
   pub running_stop : (i : ℕ) → Running i → i < length s → (t : Bool) → t ≡ p (get_or s i 0) → not t ≡ true → i ≡ at + run p (drop at s)
   running_stop i r h t e n = came_found (outside p) s (at + run p (drop at s)) i r h (test_at i h ∙ ap not (sym e) ∙ n)
@@ -40,11 +45,11 @@ module _ (p : ℕ → Bool) (s : List ℕ) (at : ℕ) where
   pub running_next : (i : ℕ) → Running i → i < length s → (t : Bool) → t ≡ p (get_or s i 0) → not t ≡ false → Running (i + 1)
   running_next i r h t e n = came_next (outside p) s (at + run p (drop at s)) i r h (test_at i h ∙ ap not (sym e) ∙ n)
 
-pub kind_gap : (q : ℕ) → q < 25 → 0 ≡ kind_of q
+pub kind_gap : (q : ℕ) → q < 25 → Blank ≡ kind_of q
 kind_gap q h = rw (lt-ltb q 25 h)
 
-pub kind_number : (q : ℕ) → 25 ≤ q → q < 34 → 1 ≡ kind_of q
+pub kind_number : (q : ℕ) → 25 ≤ q → q < 34 → Digit ≡ kind_of q
 kind_number q h k = rw (le-ltb q 25 h, lt-ltb q 34 k)
 
-pub kind_string : (q : ℕ) → 25 ≤ q → 34 ≤ q → 2 ≡ kind_of q
+pub kind_string : (q : ℕ) → 25 ≤ q → 34 ≤ q → Text ≡ kind_of q
 kind_string q h k = rw (le-ltb q 25 h, le-ltb q 34 k)

@@ -16,6 +16,8 @@ use Rattle.scan.specs.Inner.Points.{kind_of, class_of, outside, run, first_word,
 use Rattle.scan.specs.Inner.Rests.{rest, plainly, at_end}
 use Rattle.scan.specs.Inner.Turns.{Reached, Broken, Ended, Turns, by_words, TurnsAhead, words_ahead}
 use Rattle.scan.specs.declared.scanner.Turn.{Turn}
+use Rattle.scan.specs.declared.scanner.Kind.{Kind}
+use Rattle.scan.specs.declared.scanner.Kind.TheVariants.{Digit}
 use Rattle.scan.specs.declared.scanner.Turn.TheVariants.{Next, Whole, Wrong}
 use Rattle.grammar.proofs.Better.{better_none}
 use Rattle.grammar.proofs.Shifted.{shifted_add, shifted_wrong, shifted_read, made_shifted}
@@ -60,15 +62,15 @@ forget_turn s q e (Wrong n) t = record {
 
 -- ---- from a point over what it passes over
 
-abbrev Ready : List ℕ → ℕ → ℕ → Type 0
-Ready s at kind = kind ≡ 1 → digit (get_or s at 0) ≡ true
+abbrev Ready : List ℕ → ℕ → Kind → Type 0
+Ready s at kind = kind ≡ Digit → digit (get_or s at 0) ≡ true
 
 front_is : (s : List ℕ) (at : ℕ) → get_or (drop at s) 0 0 ≡ get_or s at 0
 front_is s at = let z : at + 0 ≡ at = omega arith in get_or-drop at s 0 0 ∙ ap (λ (n : ℕ). get_or s n 0) z
 
-module _ (s : List ℕ) (at q kind e : ℕ) (h : q < 42) (k : kind ≡ kind_of q) (d : Ready s at kind) (r : e ≡ at + run (class_of kind) (drop at s)) where
+module _ (s : List ℕ) (at q : ℕ) (kind : Kind) (e : ℕ) (h : q < 42) (k : kind ≡ kind_of q) (d : Ready s at kind) (r : e ≡ at + run (class_of kind) (drop at s)) where
   r_is : e ≡ at + passed q (drop at s)
-  r_is = r ∙ ap (λ (x : ℕ). at + run (class_of x) (drop at s)) k
+  r_is = r ∙ ap (λ (x : Kind). at + run (class_of x) (drop at s)) k
 
   led_to : plainly q (drop at s) ≡ shifted (e - at) (behind q (drop e s))
   led_to =
@@ -109,16 +111,16 @@ run_inside s at e p h r =
     let l : length (drop at s) ≡ length s - at = length-drop at s in
     omega (arith, a, l, h, r)
 
-pub not_digit : (s : List ℕ) (at q kind : ℕ) → q < 42 → kind ≡ kind_of q → kind ≡ 1 → (b : ℕ) → b ≡ get_or s at 0 → (t : Bool) → t ≡ class_of 1 b → t ≡ false
+pub not_digit : (s : List ℕ) (at q : ℕ) → q < 42 → Digit ≡ kind_of q → (b : ℕ) → b ≡ get_or s at 0 → (t : Bool) → t ≡ digit b → t ≡ false
     → Broken (plainly q) s at at
-not_digit s at q kind h k o b e t c f = record {
+not_digit s at q h k b e t c f = record {
   forward = omega arith;
   stops =
       let z : 0 ≡ at - at = omega arith in
-      (law q h).refuses (drop at s) (sym k ∙ o) (ap digit (front_is s at ∙ sym e) ∙ sym c ∙ f) ∙ ap wrong z;
+      (law q h).refuses (drop at s) (sym k) (ap digit (front_is s at ∙ sym e) ∙ sym c ∙ f) ∙ ap wrong z;
 }
 
-pub first_digit : (s : List ℕ) (at b : ℕ) → b ≡ get_or s at 0 → (t : Bool) → t ≡ class_of 1 b → t ≡ true → digit (get_or s at 0) ≡ true
+pub first_digit : (s : List ℕ) (at b : ℕ) → b ≡ get_or s at 0 → (t : Bool) → t ≡ digit b → t ≡ true → digit (get_or s at 0) ≡ true
 first_digit s at b e t c f = ap digit (sym e) ∙ sym c ∙ f
 
 -- ---- from point to point

@@ -13,14 +13,14 @@ use Rattle.cuts.specs.Inner.Searching.{first}
 use Rattle.grammar.specs.Grammar.{Grammar, option, span, many}
 use Rattle.grammar.specs.Reading.{read_as, wrong, later, better, expect, up_to, read, end, read_text}
 use Rattle.grammar.specs.Inner.Made.{Only, made, forget, shifted}
+use Rattle.scan.proofs.Runs.{blank_apart}
 use Rattle.scan.specs.Table.{gap, profile_text, initial_filter_criteria, ◌skip◌, ◌close◌}
 use Rattle.scan.specs.Inner.Points.{firsts, starts, nexts, letters, word_at, choices, closing, Closes, ClosedAt, NotClosed}
 use Rattle.scan.specs.Inner.Rests.{rest, plainly, rests, pass, told, Ahead, at_end, top}
 use Rattle.scan.specs.Inner.Events.{Event, each_of, of_criterion, events}
 use Rattle.scan.specs.Criteria.{Criterion}
 use Rattle.scan.proofs.Passing.{told_skip, told_close}
-use Rattle.scan.specs.declared.scanner.Close.{Close}
-use Rattle.scan.specs.declared.scanner.Close.TheVariants.{At, Open}
+use Rattle.std.specs.Prelude.{Option as Optional, Some, None}
 use Rattle.grammar.proofs.Better.{better_none, none_better, later_better}
 use Rattle.grammar.proofs.Made.{made_read, made_better, made_expect, made_up_to, forget_made}
 use Rattle.grammar.proofs.Shifted.{shifted_add, shifted_wrong, made_shifted}
@@ -86,7 +86,7 @@ two_ways a b =
 top_open : (t : List ℕ) → (plainly 0) (60 ∷ t) ≡ later (opened t)
 unfolding rest rests choices word_at firsts starts letters nexts first
 top_open t =
-    (law 0 (lit< tt)).leads (60 ∷ t) (λ i. absurd (omega (arith, i)))
+    (law 0 (lit< tt)).leads (60 ∷ t) (λ i. absurd (blank_apart i))
     ∙ two_ways (expect (text "!--") (plainly 64) t) (expect (text "InitialFilterCriteria>") (plainly 1) t)
 
 -- ---- which of the two
@@ -130,7 +130,7 @@ starts_so (b ∷ c ∷ u) h =
 tests_are : (s : List ℕ) (a b : ℕ) → a ≡ get_or s 0 0 → b ≡ get_or s 1 0 → (t : Bool) → (eqb 60 a && eqb 63 b) ≡ t → (eqb 60 (get_or s 0 0) && eqb 63 (get_or s 1 0)) ≡ t
 tests_are s a b e f t h = ap₂ (λ (x y : ℕ). eqb 60 x && eqb 63 y) (sym e) (sym f) ∙ h
 
-pub start_within : (s : List ℕ) (d : Close) → Closes (closing false) s 2 d → (z : ℕ) → d ≡ At z → z ≤ length s
+pub start_within : (s : List ℕ) (d : Optional ℕ) → Closes (closing false) s 2 d → (z : ℕ) → d ≡ Some z → z ≤ length s
 start_within s d c z q = let k : ClosedAt (closing false) s 2 z = subst (Closes (closing false) s 2) q c in k.inside
 
 -- an end that is found, or not, without the values
@@ -154,7 +154,7 @@ module _ (s : List ℕ) (a b : ℕ) (e : a ≡ get_or s 0 0) (f : b ≡ get_or s
       begun s
       ∙ subst⁻¹ (λ (x : List ℕ). better (expect (text "<?") (up_to (text "?>") [] (plainly 0)) x) ((plainly 0) x) ≡ shifted 2 (up_to (text "?>") [] (plainly 0) (drop 2 x))) p.1 (with_start p.0)
 
-  pub start_closed : (eqb 60 a && eqb 63 b) ≡ true → (d : Close) → Closes (closing false) s 2 d → (z : ℕ) → d ≡ At z → (r : Only)
+  pub start_closed : (eqb 60 a && eqb 63 b) ≡ true → (d : Optional ℕ) → Closes (closing false) s 2 d → (z : ℕ) → d ≡ Some z → (r : Only)
       → r ≡ shifted z (plainly 0 (drop z s)) → r ≡ forget (read_text profile_text s)
   start_closed h d c z q r g =
       let k : ClosedAt (closing false) s 2 z = subst (Closes (closing false) s 2) q c in
@@ -165,7 +165,7 @@ module _ (s : List ℕ) (a b : ℕ) (e : a ≡ get_or s 0 0) (f : b ≡ get_or s
       ∙ shifted_add 2 (z - 2) ((plainly 0) (drop z s))
       ∙ ap (λ (m : ℕ). shifted m ((plainly 0) (drop z s))) n)
 
-  pub start_open : (eqb 60 a && eqb 63 b) ≡ true → (d : Close) → Closes (closing false) s 2 d → d ≡ Open → wrong (length s) ≡ forget (read_text profile_text s)
+  pub start_open : (eqb 60 a && eqb 63 b) ≡ true → (d : Optional ℕ) → Closes (closing false) s 2 d → d ≡ None → wrong (length s) ≡ forget (read_text profile_text s)
   start_open h d c q =
       let k : NotClosed (closing false) s 2 = subst (Closes (closing false) s 2) q c in
       let l : 2 ≤ length s = start_inside h in

@@ -15,10 +15,8 @@ use Rattle.octets.proofs.Table as table
 use Rattle.grammar.specs.Reading.{wrong, up_to}
 use Rattle.grammar.specs.Inner.Made.{forget, shifted}
 use Rattle.scan.specs.Inner.Points.{starts, nexts, word_at, common, closing, Found, Missing, ClosedAt, NotClosed, Closes, Chose}
-use Rattle.scan.specs.declared.scanner.Chosen.{Chosen}
-use Rattle.scan.specs.declared.scanner.Chosen.TheVariants.{Word, Missed}
-use Rattle.scan.specs.declared.scanner.Close.{Close}
-use Rattle.scan.specs.declared.scanner.Close.TheVariants.{At, Open}
+use Rattle.std.specs.Prelude.{Result, Ok, Err}
+use Rattle.std.specs.Prelude.{Option as Optional, Some, None}
 use Rattle.scan.specs.Inner.Rests.{Ahead, rest, plainly}
 use Rattle.scan.specs.Inner.Turns.{Reached, Broken, words_ahead}
 use Rattle.scan.proofs.Words.{common_le}
@@ -131,10 +129,10 @@ module _ (s : List ℕ) (at q j from to : ℕ) (i : at ≤ length s) (h : q < 42
           ∙ ap wrong e;
     }
 
-    pub word_comment_by : 64 ≤ n → (d : Close) → Closes (closing true) s (at + (to - from)) d → (z : ℕ) → d ≡ At z → Reached rest (words_ahead q) s at z (n - 64)
+    pub word_comment_by : 64 ≤ n → (d : Optional ℕ) → Closes (closing true) s (at + (to - from)) d → (z : ℕ) → d ≡ Some z → Reached rest (words_ahead q) s at z (n - 64)
     word_comment_by l d c z e = word_comment l z (subst (Closes (closing true) s (at + (to - from))) e c)
 
-    pub word_open_by : 64 ≤ n → (d : Close) → Closes (closing true) s (at + (to - from)) d → d ≡ Open → Broken (words_ahead q) s at (length s)
+    pub word_open_by : 64 ≤ n → (d : Optional ℕ) → Closes (closing true) s (at + (to - from)) d → d ≡ None → Broken (words_ahead q) s at (length s)
     word_open_by l d c e = word_open l (subst (Closes (closing true) s (at + (to - from))) e c)
 
 pub word_missed : (s : List ℕ) (at q m : ℕ) → Missing q (drop at s) m → Broken (words_ahead q) s at (at + m)
@@ -146,14 +144,14 @@ word_missed s at q m c = record {
 pub missed_inside : (s : List ℕ) (at q m : ℕ) → at ≤ length s → Missing q (drop at s) m → at + m ≤ length s
 missed_inside s at q m h c = let l : length (drop at s) ≡ length s - at = length-drop at s in omega (arith, l, c.within, h)
 
-pub chose_word : (q : ℕ) (t : List ℕ) (r : Chosen) → Chose q t r → (j : ℕ) → r ≡ Word j → Found q t j
+pub chose_word : (q : ℕ) (t : List ℕ) (r : Result ℕ ℕ) → Chose q t r → (j : ℕ) → r ≡ Ok j → Found q t j
 chose_word q t r c j e = subst (Chose q t) e c
 
-pub chose_number : (q : ℕ) (t : List ℕ) (r : Chosen) → q < 42 → Chose q t r → (j : ℕ) → r ≡ Word j → j < 123
+pub chose_number : (q : ℕ) (t : List ℕ) (r : Result ℕ ℕ) → q < 42 → Chose q t r → (j : ℕ) → r ≡ Ok j → j < 123
 chose_number q t r h c j e = found_number q t j h (chose_word q t r c j e)
 
-pub missed_by : (s : List ℕ) (at q : ℕ) (r : Chosen) → Chose q (drop at s) r → (m : ℕ) → r ≡ Missed m → Broken (words_ahead q) s at (at + m)
+pub missed_by : (s : List ℕ) (at q : ℕ) (r : Result ℕ ℕ) → Chose q (drop at s) r → (m : ℕ) → r ≡ Err m → Broken (words_ahead q) s at (at + m)
 missed_by s at q r c m e = word_missed s at q m (subst (Chose q (drop at s)) e c)
 
-pub missed_inside_by : (s : List ℕ) (at q : ℕ) (r : Chosen) → at ≤ length s → Chose q (drop at s) r → (m : ℕ) → r ≡ Missed m → at + m ≤ length s
+pub missed_inside_by : (s : List ℕ) (at q : ℕ) (r : Result ℕ ℕ) → at ≤ length s → Chose q (drop at s) r → (m : ℕ) → r ≡ Err m → at + m ≤ length s
 missed_inside_by s at q r h c m e = missed_inside s at q m h (subst (Chose q (drop at s)) e c)

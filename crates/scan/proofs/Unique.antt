@@ -15,6 +15,8 @@ use Rattle.scan.specs.Criteria.{Criterion}
 use Rattle.grammar.specs.Reading.{Read, read_as, wrong, twice, better, larger, expect, up_to, read_text}
 use Rattle.grammar.specs.Inner.Made.{Only, forget}
 use Rattle.scan.specs.Table.{digit, profile_text}
+use Rattle.scan.specs.declared.scanner.Kind.TheVariants.{Digit}
+use Rattle.scan.proofs.Runs.{digit_cases}
 use Rattle.scan.specs.Inner.Points.{starts, nexts, word_at, common, choices, first_word, word_count, kind_of}
 use Rattle.scan.specs.Inner.Rests.{plainly, at_end}
 use Rattle.scan.specs.Inner.Turns.{by_words}
@@ -99,7 +101,7 @@ behind_once n q h f t l =
     (subst (λ (x : ℕ). Once (better (by_words x t) (forget (at_end t)))) (sym (eqb-true q 0 e)) (top_once n f t l)))
     (λ e. subst⁻¹ (λ (b : Bool). Once (pick b (better (by_words q t) (forget (at_end t))) (by_words q t))) e (words_once n q h f t l))
 
-led_once : (n q : ℕ) → q < 42 → Shorter n → (t : List ℕ) → length t ≤ n → (kind_of q ≡ 1 → digit (get_or t 0 0) ≡ true) → Once (plainly q t)
+led_once : (n q : ℕ) → q < 42 → Shorter n → (t : List ℕ) → length t ≤ n → (kind_of q ≡ Digit → digit (get_or t 0 0) ≡ true) → Once (plainly q t)
 led_once n q h f t l d =
     let m : length (drop (passed q t) t) ≡ length t - passed q t = length-drop (passed q t) t in
     subst⁻¹ Once ((law q h).leads t d)
@@ -112,9 +114,9 @@ points_once (suc n) q h t l =
     let m : length t ≤ n = omega (arith, l) in
     test_cases (digit (get_or t 0 0))
     (λ e. led_once n q h f t m (λ i. e))
-    (λ e. test_cases (eqb (kind_of q) 1)
-    (λ k. subst⁻¹ Once ((law q h).refuses t (eqb-true (kind_of q) 1 k) e) tt)
-    (λ k. led_once n q h f t m (λ i. absurd (eqb-false (kind_of q) 1 k i))))
+    (λ e. digit_cases (kind_of q)
+    (λ k. subst⁻¹ Once ((law q h).refuses t k e) tt)
+    (λ k. led_once n q h f t m (λ i. absurd (k i))))
 
 -- ---- the whole text
 

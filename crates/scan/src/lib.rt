@@ -5,5 +5,5 @@ mod points;
 mod scanner;
 mod tags;
 
-pub use crate::scanner::{Scan, scan_text};
+pub use crate::scanner::scan_text;
 pub use crate::tags::{Tag, end_tag_of};

@@ -1,6 +1,6 @@
 // Scans a text: whole, or wrong at a place (refusal 14).
 ghost use Rattle.std.specs.Prelude.{◌≡◌, ◌+◌, ◌≤◌, ◌<◌, length, drop, get_or, true, false};
-ghost use Rattle.grammar.specs.Reading.{larger, read_text};
+ghost use Rattle.grammar.specs.Reading.{read_text};
 ghost use Rattle.grammar.specs.Inner.Made.{forget, shifted};
 ghost use Rattle.scan.specs.Table.{digit, profile_text};
 ghost use Rattle.scan.specs.Inner.Rests.{plainly};
@@ -9,13 +9,6 @@ ghost use Rattle.scan.specs.Inner.Points.{word_at, common, class_of, run, kind_o
 
 use crate::points::{first_of, letter, next_of, start_of};
 use octets::byte_at;
-
-// The word that stands in the text, or how many bytes go on where none does.
-#[derive(Clone, Copy)]
-pub enum Chosen {
-    Word(usize),
-    Missed(usize),
-}
 
 // How many bytes of word j stand in the text from a place on.
 fn reach(s: &[u8], at: usize, j: usize) -> usize
@@ -26,8 +19,7 @@ fn reach(s: &[u8], at: usize, j: usize) -> usize
     let to = start_of(j + 1);
     let n = to - from;
     let left = s.len() - at;
-    let mut i: usize = 0;
-    while i < n {
+    for i in 0..n {
         if left <= i {
             return i;
         }
@@ -36,76 +28,59 @@ fn reach(s: &[u8], at: usize, j: usize) -> usize
         if a != b {
             return i;
         }
-        i += 1;
     }
-    i
+    n
 }
 
-// Whether the byte is one that a point passes over: 0 blanks, 1 digits, 2 text.
-fn in_class(kind: usize, b: u8) -> bool
+// The bytes that a point passes over: between tags, in a number, in a string.
+#[derive(Clone, Copy)]
+pub enum Kind {
+    Blank,
+    Digit,
+    Text,
+}
+
+// Whether the byte is one that a point passes over.
+fn in_class(kind: Kind, b: u8) -> bool
     ensures { result ≡ class_of kind b }
 {
-    if kind == 0 {
-        return ((b == 32) | (b == 9)) | ((b == 13) | (b == 10));
+    match kind {
+        Kind::Blank => matches!(b, b' ' | b'\t' | b'\r' | b'\n'),
+        Kind::Digit => b.is_ascii_digit(),
+        Kind::Text => !matches!(b, b'<' | b'&'),
     }
-    if kind == 1 {
-        return (48 <= b) & (b <= 57);
-    }
-    !((b == 60) | (b == 38))
 }
 
 // Where the bytes of a class end.
-fn run_end(s: &[u8], at: usize, kind: usize) -> usize
+fn run_end(s: &[u8], at: usize, kind: Kind) -> usize
     requires { at ≤ length s.now }
     ensures { result ≡ at + run (class_of kind) (drop at s.now) }
 {
-    let mut i = at;
-    while i < s.len() {
-        let b = s[i];
-        if !in_class(kind, b) {
+    for i in at..s.len() {
+        if !in_class(kind, s[i]) {
             return i;
         }
-        i += 1;
     }
-    i
+    s.len()
 }
 
-fn larger_of(m: usize, n: usize) -> usize
-    ensures { result ≡ larger m n }
-{
-    if m < n {
-        return n;
-    }
-    m
-}
-
-// The word of point q that stands at a place.
-fn choose(s: &[u8], at: usize, q: usize) -> Chosen
+// The word of point q that stands at a place, or how many bytes go on where none does.
+fn choose(s: &[u8], at: usize, q: usize) -> Result<usize, usize>
     requires { (at ≤ length s.now) × (q < 42) }
     ensures { Chose q (drop at s.now) result }
 {
     let end = first_of(q + 1);
     let mut best: usize = 0;
-    let mut j = first_of(q);
-    while j < end {
+    for j in first_of(q)..end {
         let from = start_of(j);
         let to = start_of(j + 1);
         let r = reach(s, at, j);
         if r == to - from {
-            return Chosen::Word(j);
+            return Ok(j);
         }
-        let b = larger_of(best, r);
-        best = b;
-        j += 1;
+        best = best.max(r);
     }
-    Chosen::Missed(best)
-}
-
-// Where a comment or a `<?` ends: behind its end, or nowhere.
-#[derive(Clone, Copy)]
-pub enum Close {
-    At(usize),
-    Open,
+    Err(best)
 }
 
 // Whether a comment (or else a `<?`) ends with the byte b, behind the bytes q and p.
@@ -113,29 +88,27 @@ fn ends_with(comment: bool, q: u8, p: u8, b: u8) -> bool
     ensures { result ≡ ends_by comment q p b }
 {
     if comment {
-        return (62 == b) & ((45 == p) & (45 == q));
+        return b == b'>' && p == b'-' && q == b'-';
     }
-    (62 == b) & (63 == p)
+    b == b'>' && p == b'?'
 }
 
-// The place behind the first `-->` (or `?>`) from a place on.
-fn end_of(s: &[u8], at: usize, comment: bool) -> Close
+// Where a comment (or else a `<?`) ends: the place behind the first `-->` (or `?>`) from a place on, if there is one.
+fn end_of(s: &[u8], at: usize, comment: bool) -> Option<usize>
     requires { at ≤ length s.now }
     ensures { Closes (closing comment) s.now at result }
 {
     let mut q: u8 = 0;
     let mut p: u8 = 0;
-    let mut i = at;
-    while i < s.len() {
+    for i in at..s.len() {
         let b = s[i];
-        i += 1;
         if ends_with(comment, q, p, b) {
-            return Close::At(i);
+            return Some(i + 1);
         }
         q = p;
         p = b;
     }
-    Close::Open
+    None
 }
 
 // What stands behind a point: another point, the end of a whole text, or a byte with which no text goes on.
@@ -147,16 +120,14 @@ pub enum Turn {
 }
 
 // Which bytes point q passes over.
-fn kind_of(q: usize) -> usize
+fn kind_of(q: usize) -> Kind
     ensures { result ≡ kind_of q }
 {
-    if q < 25 {
-        return 0;
+    match q {
+        0..25 => Kind::Blank,
+        25..34 => Kind::Digit,
+        _ => Kind::Text,
     }
-    if q < 34 {
-        return 1;
-    }
-    2
 }
 
 // Behind word j of point q, and behind the comment where it begins one.
@@ -171,10 +142,9 @@ fn behind_word(s: &[u8], at: usize, q: usize, j: usize) -> Turn
     if next < 64 {
         return Turn::Next(e, next);
     }
-    let d = end_of(s, e, true);
-    match d {
-        Close::At(z) => Turn::Next(z, next - 64),
-        Close::Open => Turn::Wrong(s.len()),
+    match end_of(s, e, true) {
+        Some(z) => Turn::Next(z, next - 64),
+        None => Turn::Wrong(s.len()),
     }
 }
 
@@ -183,24 +153,20 @@ fn word_turn(s: &[u8], at: usize, q: usize) -> Turn
     requires { (at ≤ length s.now) × (q < 42) }
     ensures { TurnsAhead (words_ahead q) s.now at result }
 {
-    let c = choose(s, at, q);
-    match c {
-        Chosen::Word(j) => behind_word(s, at, q, j),
-        Chosen::Missed(m) => Turn::Wrong(at + m),
+    match choose(s, at, q) {
+        Ok(j) => behind_word(s, at, q, j),
+        Err(m) => Turn::Wrong(at + m),
     }
 }
 
 // From point q, of the kind given, over what it passes over and on by its words.
-fn lead(s: &[u8], at: usize, q: usize, kind: usize) -> Turn
-    requires { (at ≤ length s.now) × (q < 42) × (kind ≡ kind_of q) × (kind ≡ 1 → digit (get_or s.now at 0) ≡ true) }
+fn lead(s: &[u8], at: usize, q: usize, kind: Kind) -> Turn
+    requires { (at ≤ length s.now) × (q < 42) × (kind ≡ kind_of q) × (kind ≡ Kind.Digit → digit (get_or s.now at 0) ≡ true) }
     ensures { Turns (plainly q) s.now at result }
 {
     let e = run_end(s, at, kind);
-    if q == 0 {
-        if e == s.len() {
-            return Turn::Whole;
-        }
-        return word_turn(s, e, q);
+    if q == 0 && e == s.len() {
+        return Turn::Whole;
     }
     word_turn(s, e, q)
 }
@@ -210,64 +176,43 @@ fn pass_point(s: &[u8], at: usize, q: usize) -> Turn
     requires { (at ≤ length s.now) × (q < 42) }
     ensures { Turns (plainly q) s.now at result }
 {
-    let kind = kind_of(q);
-    if kind == 1 {
-        let b = byte_at(s, at);
-        if in_class(1, b) {
-            return lead(s, at, q, kind);
-        }
-        return Turn::Wrong(at);
+    match kind_of(q) {
+        Kind::Digit if in_class(Kind::Digit, byte_at(s, at)) => lead(s, at, q, Kind::Digit),
+        Kind::Digit => Turn::Wrong(at),
+        kind => lead(s, at, q, kind),
     }
-    lead(s, at, q, kind)
 }
 
-// Whether a text is one of the subset, or where it goes wrong.
-#[derive(Clone, Copy)]
-pub enum Scan {
-    Whole,
-    Wrong(usize),
-}
-
-// From the top, at a place.
-fn scan_from(s: &[u8], from: usize) -> Scan
+// From the top, at a place: where the text goes wrong, if it is none of the subset.
+fn scan_from(s: &[u8], from: usize) -> Result<(), usize>
     requires { from ≤ length s.now }
     ensures { scan_out result ≡ shifted from (plainly 0 (drop from s.now)) }
 {
     let mut at = from;
     let mut q: usize = 0;
     loop {
-        let t = pass_point(s, at, q);
-        match t {
+        match pass_point(s, at, q) {
             Turn::Next(e, p) => {
                 at = e;
                 q = p;
             }
-            Turn::Whole => {
-                return Scan::Whole;
-            }
-            Turn::Wrong(n) => {
-                return Scan::Wrong(n);
-            }
+            Turn::Whole => return Ok(()),
+            Turn::Wrong(n) => return Err(n),
         }
     }
 }
 
 // The whole text: "one `<?` to its `?>` at byte 0", and then from the top.
-pub fn scan_text(s: &[u8]) -> Scan
+pub fn scan_text(s: &[u8]) -> Result<(), usize>
     ensures { scan_out result ≡ forget (read_text profile_text s.now) }
 {
     let a = byte_at(s, 0);
     let b = byte_at(s, 1);
-    if (60 == a) & (63 == b) {
-        let d = end_of(s, 2, false);
-        match d {
-            Close::At(e) => {
-                return scan_from(s, e);
-            }
-            Close::Open => {
-                return Scan::Wrong(s.len());
-            }
-        }
+    if (b'<' == a) & (b'?' == b) {
+        return match end_of(s, 2, false) {
+            Some(e) => scan_from(s, e),
+            None => Err(s.len()),
+        };
     }
     scan_from(s, 0)
 }

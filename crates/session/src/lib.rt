@@ -31,32 +31,35 @@ pub struct Reported {
 }
 
 // "A record that no session can have is refused with 10."
+#[tactic(auto, unfolding(crate::specs::Session::possible))]
 pub fn can_be(x: Session) -> bool
     ensures { result ≡ possible x }
 {
     if 3 < x.case {
         return false;
     }
-    if x.forwarded == 0 {
-        return (x.last == 0) & (x.handling == 0) & ((x.state == 0) | (x.state == 2));
+    match x.forwarded {
+        0 => x.last == 0 && x.handling == 0 && (x.state == 0 || x.state == 2),
+        1 => x.handling <= 1 && x.state <= 4 && (x.state != 3 || x.handling == 1),
+        _ => false,
     }
-    (x.forwarded == 1)
-        & ((x.handling <= 1) & (x.state <= 4) & (!(x.state == 3) | (x.handling == 1)))
 }
 
+#[tactic(auto, unfolding(crate::specs::Session::open_session))]
 pub fn open(wanted: u32) -> Opened
     ensures { Opens wanted result }
 {
+    let fresh = Session {
+        case: wanted,
+        state: 0,
+        forwarded: 0,
+        last: 0,
+        handling: 0,
+    };
     if wanted <= 3 {
         return Opened {
             refusal: 0,
-            session: Session {
-                case: wanted,
-                state: 0,
-                forwarded: 0,
-                last: 0,
-                handling: 0,
-            },
+            session: fresh,
         };
     }
     Opened {
@@ -64,9 +67,7 @@ pub fn open(wanted: u32) -> Opened
         session: Session {
             case: 0,
             state: 2,
-            forwarded: 0,
-            last: 0,
-            handling: 0,
+            ..fresh
         },
     }
 }
@@ -75,13 +76,7 @@ pub fn open(wanted: u32) -> Opened
 pub fn in_state(x: Session, state: u32) -> Session
     ensures { result ≡ with_state x state }
 {
-    Session {
-        case: x.case,
-        state,
-        forwarded: x.forwarded,
-        last: x.last,
-        handling: x.handling,
-    }
+    Session { state, ..x }
 }
 
 // Waiting for a criterion's server: its priority and default are kept.
@@ -89,11 +84,11 @@ pub fn forwarded_to(x: Session, priority: u32, handling: u32) -> Session
     ensures { result ≡ forwarded_to x priority handling }
 {
     Session {
-        case: x.case,
         state: 1,
         forwarded: 1,
         last: priority,
         handling,
+        ..x
     }
 }
 
@@ -117,26 +112,18 @@ fn goes(x: Session, state: u32) -> Reported
     }
 }
 
+#[tactic(auto, unfolding(crate::specs::Session::report_session))]
 pub fn report(x: Session, news: u32) -> Reported
     ensures { Reports x news result }
 {
-    if x.state != 1 {
+    if x.state != 1 || !can_be(x) {
         return stays(x, 10);
     }
-    if !can_be(x) {
-        return stays(x, 10);
+    match news {
+        0 => goes(x, 0),
+        1 if x.handling == 0 => goes(x, 0),
+        1 => goes(x, 3),
+        2 => goes(x, 4),
+        _ => stays(x, 8),
     }
-    if news == 0 {
-        return goes(x, 0);
-    }
-    if news == 1 {
-        if x.handling == 0 {
-            return goes(x, 0);
-        }
-        return goes(x, 3);
-    }
-    if news == 2 {
-        return goes(x, 4);
-    }
-    stays(x, 8)
 }

@@ -1,4 +1,5 @@
 use native.Mathlib.Omega.{arith}
+use mathlib.Core.Path.{refl}
 use Rattle.plain.proofs.Trying.{walk_start, walk_end, walk_close, walk_more, last_inside}
 use Rattle.plain.proofs.try_list.Goals as goal
 
@@ -8,10 +9,10 @@ loop-i-init c =
 
 pub returns-then-low-from : goal.returns-then-low-from
 returns-then-low-from c =
-    walk_close _ _ c.loop-i-test.true _ _ _ c.loop-i.invariant _ c.peek_at-low.ensures c.if-low-from.true _ c.as_trial.ensures
+    walk_close _ _ c.loop-i-test.true _ _ _ c.loop-i.invariant _ c.peek_at-low.ensures c.if-low-from.true _ refl
 
-pub overflow_add-i-in-loop-i : goal.overflow_add-i-in-loop-i
-overflow_add-i-in-loop-i c =
+pub overflow_add-i : goal.overflow_add-i
+overflow_add-i c =
     omega (arith, (last_inside _ _ _ c.loop-i-test.true c.last_at-last.ensures).1)
 
 pub loop-i-smaller : goal.loop-i-smaller
@@ -24,4 +25,4 @@ loop-i-preserved c =
 
 pub returns : goal.returns
 returns c =
-    walk_end _ _ _ _ _ c.loop-i.invariant c.loop-i-test.false _ c.as_trial-2.ensures
+    walk_end _ _ _ _ _ c.loop-i.invariant c.loop-i-test.false _ refl

@@ -1,26 +1,22 @@
+use native.Mathlib.Omega.{arith}
+use mathlib.Core.Path.{refl}
 use Rattle.plain.proofs.Trying.{try_dot, try_pair, try_byte, try_list, try_not, not_inside}
 use Rattle.plain.proofs.try_one.Goals as goal
 
-pub returns-then-b-eq46 : goal.returns-then-b-eq46
-returns-then-b-eq46 c =
-    try_dot _ _ _ c.requires _ c.peek_at-b.ensures c.if-b-eq46.true _ c.as_trial.ensures
+pub returns-in-46 : goal.returns-in-46
+returns-in-46 c = try_dot _ _ _ c.requires _ c.peek_at.ensures c.in-46.is _ refl
 
-pub returns-then-b-eq92 : goal.returns-then-b-eq92
-returns-then-b-eq92 c =
-    try_pair _ _ _ c.requires _ c.peek_at-b.ensures c.if-b-eq92.true _ c.peek_at-next.ensures _ c.as_trial-then-b-eq92.ensures
-
-pub returns-then-b-ne91 : goal.returns-then-b-ne91
-returns-then-b-ne91 c =
-    try_byte _ _ _ c.requires _ c.peek_at-b.ensures c.if-b-eq46.false c.if-b-eq92.false c.if-b-ne91.true _ c.as_trial-then-b-ne91.ensures
-
-pub returns-then-next-ne94 : goal.returns-then-next-ne94
-returns-then-next-ne94 c =
-    try_list _ _ _ c.requires _ c.peek_at-b.ensures c.if-b-ne91.false _ c.peek_at-next.ensures c.if-next-ne94.true _ c.try_list.ensures
+pub returns-in-92 : goal.returns-in-92
+returns-in-92 c = try_pair _ _ _ c.requires _ c.peek_at.ensures c.in-92.is _ c.peek_at-next.ensures _ refl
 
 pub try_list-list-requires : goal.try_list-list-requires
-try_list-list-requires c =
-    not_inside _ _ _ c.peek_at-next.ensures c.if-next-ne94.false
+try_list-list-requires c = not_inside _ _ _ c.peek_at-next.ensures c.if-next-eq94.true
 
-pub returns : goal.returns
-returns c =
-    try_not _ _ _ c.requires _ c.peek_at-b.ensures c.if-b-ne91.false _ c.peek_at-next.ensures c.if-next-ne94.false _ c.try_list-list.ensures _ c.as_trial-2.ensures
+pub returns-in-91 : goal.returns-in-91
+returns-in-91 c = try_not _ _ _ c.requires _ c.peek_at.ensures c.in-91.is _ c.peek_at-next.ensures c.if-next-eq94.true _ c.try_list-list.ensures _ refl
+
+pub returns-in-91-2 : goal.returns-in-91-2
+returns-in-91-2 c = try_list _ _ _ c.requires _ c.peek_at.ensures c.in-91.is _ c.peek_at-next.ensures c.if-next-eq94.false _ c.try_list.ensures
+
+pub returns-in_default : goal.returns-in_default
+returns-in_default c = try_byte _ _ _ c.requires _ c.peek_at.ensures (omega arith) (omega arith) (omega arith) _ refl

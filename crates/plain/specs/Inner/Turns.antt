@@ -1,5 +1,6 @@
 -- One turn of the plain matcher, by places in the pattern and in the text. What cannot be read is said nothing of.
 use Rattle.std.specs.Prelude.{◌≡◌, Bool, true, List, ℕ, ◌+◌, ◌<◌, ◌≤◌, eqb, length, drop}
+use Rattle.std.specs.Prelude.{Option as Optional, Some, None}
 use Rattle.std.proofs.Math.Option.{Option, none, some}
 use Rattle.octets.specs.Lists.{pick, some_of, peek}
 use Rattle.basic.specs.Pattern.{Range, Atom, in_range, meets}
@@ -10,7 +11,6 @@ use Rattle.place.specs.declared.Place.{Place}
 use Rattle.plain.specs.Plain.{answered}
 use Rattle.plain.specs.declared.Answer.{Answer}
 use Rattle.plain.specs.declared.Trial.{Trial}
-use Rattle.plain.specs.declared.Way.{Way}
 
 -- ---- the pattern
 
@@ -34,12 +34,18 @@ pub record Short (t : List ℕ) (j : ℕ) : Type 0 where
   pub limit : length t ≤ 256
 
 -- a length, or none
-abbrev pub told : Way → Option ℕ
-told r = pick r.found (some r.size) none
+abbrev pub told : Optional ℕ → Option ℕ
+told None = none
+told (Some n) = some n
+
+-- how many bytes that is
+abbrev pub taken : Optional ℕ → ℕ
+taken None = 0
+taken (Some n) = n
 
 -- how far the elements from i on reach from j on
-pub record Reaches (s : List ℕ) (i : ℕ) (t : List ℕ) (j : ℕ) (r : Way) : Type 0 where
-  pub inside : r.size + j ≤ length t
+pub record Reaches (s : List ℕ) (i : ℕ) (t : List ℕ) (j : ℕ) (r : Optional ℕ) : Type 0 where
+  pub inside : taken r + j ≤ length t
   pub far : (first : Bool) (b : Body) → body_of first (drop i s) ≡ some b → told r ≡ furthest meets b.anchored b.parts (drop j t)
 
 -- a place that is counted from j on

@@ -7,10 +7,9 @@ use Rattle.grammar.specs.Reading.{Read, wrong, better, expect, up_to}
 use Rattle.grammar.specs.Inner.Made.{shifted}
 use Rattle.scan.specs.Inner.Events.{Event}
 use Rattle.scan.specs.Table.{blank, digit, plain}
-use Rattle.scan.specs.declared.scanner.Chosen.{Chosen}
-use Rattle.scan.specs.declared.scanner.Chosen.TheVariants.{Word, Missed}
-use Rattle.scan.specs.declared.scanner.Close.{Close}
-use Rattle.scan.specs.declared.scanner.Close.TheVariants.{At, Open}
+use Rattle.std.specs.Prelude.{Option, Some, None, Result, Ok, Err}
+use Rattle.scan.specs.declared.scanner.Kind.{Kind}
+use Rattle.scan.specs.declared.scanner.Kind.TheVariants.{Blank, Digit, Text}
 
 -- the number of each point's first word; those of the next point follow
 unfoldable pub firsts : List ℕ
@@ -85,9 +84,11 @@ choices k j (suc n) t = better (expect (word_at j) (k (get_or nexts j 0)) t) (ch
 
 -- ---- what the code answers
 
--- the bytes that a point passes over: 0 between tags, 1 in a number, 2 in a string
-abbrev pub class_of : ℕ → ℕ → Bool
-class_of kind b = pick (eqb kind 0) (blank b) (pick (eqb kind 1) (digit b) (plain b))
+-- the bytes that a point passes over: between tags, in a number, in a string
+abbrev pub class_of : Kind → ℕ → Bool
+class_of Blank = blank
+class_of Digit = digit
+class_of Text = plain
 
 -- the text goes on with a byte that is none of the set
 abbrev pub outside : (ℕ → Bool) → List ℕ → Bool
@@ -114,13 +115,13 @@ pub record Missing (q : ℕ) (t : List ℕ) (m : ℕ) : Type 0 where
   pub within : m ≤ length t
   pub stops : (k : ℕ → List ℕ → Read (List Event)) → choices k (first_word q) (word_count q) t ≡ wrong m
 
-abbrev pub Chose : ℕ → List ℕ → Chosen → Type 0
-Chose q t (Word j) = Found q t j
-Chose q t (Missed m) = Missing q t m
+abbrev pub Chose : ℕ → List ℕ → Result ℕ ℕ → Type 0
+Chose q t (Ok j) = Found q t j
+Chose q t (Err m) = Missing q t m
 
 -- the bytes that point q passes over
-abbrev pub kind_of : ℕ → ℕ
-kind_of q = pick (ltb q 25) 0 (pick (ltb q 34) 1 2)
+abbrev pub kind_of : ℕ → Kind
+kind_of q = pick (ltb q 25) Blank (pick (ltb q 34) Digit Text)
 
 -- ---- ends
 
@@ -141,6 +142,6 @@ pub record ClosedAt (w s : List ℕ) (at e : ℕ) : Type 0 where
 pub record NotClosed (w s : List ℕ) (at : ℕ) : Type 0 where
   pub stops : (k : List ℕ → Read (List Event)) → up_to w [] k (drop at s) ≡ wrong (length s - at)
 
-abbrev pub Closes : List ℕ → List ℕ → ℕ → Close → Type 0
-Closes w s at (At e) = ClosedAt w s at e
-Closes w s at Open = NotClosed w s at
+abbrev pub Closes : List ℕ → List ℕ → ℕ → Option ℕ → Type 0
+Closes w s at (Some e) = ClosedAt w s at e
+Closes w s at None = NotClosed w s at

@@ -4,7 +4,7 @@ use Rattle.grammar.specs.Reading.{Read, read_as, wrong}
 use Rattle.grammar.specs.Inner.Made.{Only, shifted}
 use Rattle.scan.specs.Inner.Points.{choices, first_word, word_count}
 use Rattle.scan.specs.Inner.Rests.{Ahead, rest, plainly}
-use Rattle.scan.specs.declared.scanner.Scan.{Scan}
+use Rattle.std.specs.Prelude.{⊤, Result, Ok, Err}
 use Rattle.scan.specs.declared.scanner.Turn.{Turn}
 use Rattle.scan.specs.declared.scanner.Turn.TheVariants.{Next, Whole, Wrong}
 
@@ -36,9 +36,9 @@ Turns way s at t = Turning tt plainly way s at t
 abbrev pub TurnsAhead : (List ℕ → Ahead) → List ℕ → ℕ → Turn → Type 0
 TurnsAhead way s at t = Turning [] rest way s at t
 
-abbrev pub scan_out : Scan → Only
-scan_out Scan.Whole = read_as tt
-scan_out (Scan.Wrong n) = wrong n
+abbrev pub scan_out : Result ⊤ ℕ → Only
+scan_out (Ok u) = read_as tt
+scan_out (Err n) = wrong n
 
 -- by the words of point q
 abbrev pub by_words : ℕ → List ℕ → Only

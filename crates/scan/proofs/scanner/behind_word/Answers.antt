@@ -16,11 +16,11 @@ overflow_add-e c =
 pub returns-then-next-lt64 : goal.returns-then-next-lt64
 returns-then-next-lt64 c = search word_next
 
-pub end_of-d-requires : goal.end_of-d-requires
-end_of-d-requires c = search word_inside
+pub end_of-requires : goal.end_of-requires
+end_of-requires c = search word_inside
 
-pub returns-in-At : goal.returns-in-At
-returns-in-At c = search word_comment_by
+pub returns-in-Some : goal.returns-in-Some
+returns-in-Some c = search word_comment_by
 
-pub returns-in-Open : goal.returns-in-Open
-returns-in-Open c = search word_open_by
+pub returns-in-None : goal.returns-in-None
+returns-in-None c = search word_open_by

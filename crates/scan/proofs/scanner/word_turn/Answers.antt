@@ -10,8 +10,8 @@ behind_word-requires c = (search rules, search rules, search chose_number, searc
 
 pub overflow_add-result : goal.overflow_add-result
 overflow_add-result c =
-    let p : c.args.at + c.in-Missed.m ≤ length c.args.s.now = search missed_inside_by in
+    let p : c.args.at + c.in-Err.m ≤ length c.args.s.now = search missed_inside_by in
     omega (arith, p)
 
-pub returns-in-Missed : goal.returns-in-Missed
-returns-in-Missed c = search missed_by
+pub returns-in-Err : goal.returns-in-Err
+returns-in-Err c = search missed_by
