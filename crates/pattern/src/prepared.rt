@@ -1,5 +1,5 @@
 // A pattern that was made ready for many texts.
-ghost use Rattle.std.specs.Prelude.{◌≡◌, length};
+ghost use Rattle.std.specs.Prelude.{◌≡◌};
 ghost use Rattle.pattern.specs.Inner.Answers.{meets_text};
 ghost use Rattle.pattern.specs.Inner.Prepared.{Ready};
 
@@ -27,12 +27,24 @@ impl<'a> Prepared<'a> {
 }
 
 // Places for the sets and masks of one pattern after the other.
+#[derive(Drop)]
 pub struct PatternPlaces {
     pub sets: [[u64; 4]; 60],
     pub before: [u64; 60],
 }
 
 impl PatternPlaces {
+    ghost use Rattle.pattern.specs.Inner.Places.{cleared};
+
+    pub fn cleared() -> Self
+        ensures { result ≡ cleared }
+    {
+        PatternPlaces {
+            sets: [[0; 4]; 60],
+            before: [0; 60],
+        }
+    }
+
     // Makes a pattern ready here. What stood here before means nothing, nor what stands here where the bytes are no pattern.
     pub fn prepare<'a>(&'a mut self, bytes: &'a [u8], for_names: bool) -> Prepared<'a>
         ensures { (result.bytes.now ≡ bytes.now) × (result.for_names ≡ for_names) }

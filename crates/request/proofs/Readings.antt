@@ -134,6 +134,10 @@ module _ (s starts colons starts' colons' : List ℕ) (rd : Answer Places) (k : 
     pub reads : read_request s ≡ some (request_of s)
     reads = reads_so s starts' colons' p readable
 
+    -- what is readable has at most 65,535 bytes
+    pub readable_short : length s ≤ 65535
+    readable_short = short s starts' colons' p readable
+
     pub its_method : take (p.method - 0) s ≡ (request_of s).method
     its_method = method_is s starts' colons' p readable
 

@@ -1,6 +1,7 @@
 // Places for a row's patterns, and the patterns read into them.
 ghost use Rattle.std.specs.Prelude.{◌≡◌};
 ghost use Rattle.profile.specs.Inner.Decoded.{strings};
+ghost use Rattle.pattern.specs.Inner.Places.{cleared};
 ghost use Rattle.rows.specs.Inner.Tried.{PatternsOf, ContentOf};
 
 use entries::Row;
@@ -9,6 +10,7 @@ use profile::AcceptedImage;
 use trials::RowPatterns;
 
 // Those of one row after the other: what stands here between two rows means nothing.
+#[derive(Drop)]
 pub struct RowPlaces {
     pub name: PatternPlaces,
     pub content: PatternPlaces,
@@ -29,6 +31,15 @@ fn prepare_content<'a, 'i: 'a>(
 }
 
 impl RowPlaces {
+    pub fn cleared() -> Self
+        ensures { (result.name ≡ cleared) × (result.content ≡ cleared) }
+    {
+        RowPlaces {
+            name: PatternPlaces::cleared(),
+            content: PatternPlaces::cleared(),
+        }
+    }
+
     // Reads the patterns of a row of kind 2 or 4, once for all fields or lines: those of kind 2 (SIPHeader) are for names.
     pub fn prepare<'a, 'i: 'a>(&'a mut self, image: &AcceptedImage<'i>, row: Row) -> RowPatterns<'a>
         ensures { PatternsOf (strings image.now.bytes.now) row result }
