@@ -9,6 +9,7 @@ ghost use Rattle.place.specs.Inner.Texts.{place_text};
 
 use machine::{Shape, leftmost};
 use part::longest;
+use pattern::Prepared;
 
 // Whether there is one, the place of its first byte, and how many bytes it has; 0 and 0 where there is none.
 #[derive(Clone, Copy)]
@@ -43,4 +44,11 @@ pub fn locate(h: Shape, sets: &[[u64; 4]; 60], before: &[u64; 60], text: &[u8]) 
         start,
         size,
     }
+}
+
+// The same, of a pattern that is lent with all that was made of it.
+pub fn find(pattern: &Prepared<'_>, text: &[u8]) -> Place
+    ensures { result ≡ place_text pattern.now.for_names pattern.now.bytes.now text.now }
+{
+    locate(pattern.shape, pattern.sets, pattern.before, text)
 }

@@ -17,10 +17,9 @@ use Rattle.contents.specs.declared.BodyLine.{BodyLine}
 use Rattle.contents.specs.declared.BodyLine.TheVariants.{Typed, Other, Done}
 use Rattle.contents.proofs.BodyLines.{TypedAt, OtherAt, LineSays, line_says, session_start}
 use Rattle.request.specs.Request.{Field}
-use Rattle.request.specs.Inner.Places.{head_of, Placed, request_of, field_parts}
-use Rattle.request.specs.declared.FieldParts.{FieldParts}
+use Rattle.request.specs.Inner.Places.{Placed, request_of, FieldIs}
 use Rattle.request.specs.declared.Places.{Places}
-use Rattle.request.proofs.Readings.{fields_many, field_said, index_low}
+use Rattle.request.proofs.Readings.{fields_many, index_low}
 use Rattle.spots.specs.Spots.{none_shown, shown_in, first_shown}
 use Rattle.spots.specs.Inner.Steps.{item_spot, field_spot, line_spot, LowSpot, LowShown}
 use Rattle.spots.specs.declared.Shown.{Shown}
@@ -56,36 +55,38 @@ module _ (s starts colons : List ℕ) (p : Places) (k : Placed s starts colons p
       let all : length (request_of s).fields ≤ i = omega (arith, fields_many s starts colons p k) in
       ey ∙ sym (ap (first_shown (field_spot h with c) i) (drop_of_length-le (request_of s).fields all)) ∙ w.same
 
-  module _ (more : i < p.fields) (f : FieldParts) (ef : f ≡ field_parts (head_of s) i) (name : List ℕ)
-      (en : name ≡ name_as_matched (part s f.name f.stop)) (x : Spot)
-      (ex : x ≡ item_spot true h with c name (values_of name (reduced (part s f.value f.end)))) where
-    abbrev this : List ℕ → Field
-    this n = record { name = n; values = values_of n (reduced (part s f.value f.end)) }
+-- field i of the request, looked at
+module _ (s : List ℕ) (i : ℕ) (written value : List ℕ) (k : FieldIs s i written value) (name : List ℕ) (en : name ≡ name_as_matched written)
+    (h : List ℕ) (with : Bool) (c : List ℕ) (w : Fielding h with c s i) (x : Spot) (ex : x ≡ item_spot true h with c name (values_of name (reduced value))) where
+  abbrev this : List ℕ → Field
+  this n = record { name = n; values = values_of n (reduced value) }
 
-    abbrev real : Field
-    real = this (name_as_matched (part s f.name f.stop))
+  abbrev real : Field
+  real = this (name_as_matched written)
 
-    spot_is : x ≡ field_spot h with c real
-    unfolding field_spot
-    spot_is = ex ∙ ap (λ (n : List ℕ). field_spot h with c (this n)) en
+  spot_is : x ≡ field_spot h with c real
+  unfolding field_spot
+  spot_is = ex ∙ ap (λ (n : List ℕ). field_spot h with c (this n)) en
 
-    here : (b : Bool) → x.found ≡ b
-        → pick b (shown_in i x) (first_shown (field_spot h with c) (suc i) (drop (i + 1) (request_of s).fields))
-        ≡ first_shown (field_spot h with c) 0 (request_of s).fields
-    here b e =
-        by_found (field_spot h with c) i real (drop (i + 1) (request_of s).fields) x spot_is b e
-        ∙ sym (ap (first_shown (field_spot h with c) i) (field_said s starts colons p k i more f ef).list) ∙ w.same
+  here : (b : Bool) → x.found ≡ b
+      → pick b (shown_in i x) (first_shown (field_spot h with c) (suc i) (drop (i + 1) (request_of s).fields))
+      ≡ first_shown (field_spot h with c) 0 (request_of s).fields
+  here b e =
+      by_found (field_spot h with c) i real (drop (i + 1) (request_of s).fields) x spot_is b e
+      ∙ sym (ap (first_shown (field_spot h with c) i) k.list) ∙ w.same
 
-    pub fielding_found : x.found ≡ true → (y : Shown) → y ≡ shown_in i x → y ≡ first_shown (field_spot h with c) 0 (request_of s).fields
-    fielding_found e y ey = ey ∙ here true e
+  pub fielding_found : x.found ≡ true → (y : Shown) → y ≡ shown_in i x → y ≡ first_shown (field_spot h with c) 0 (request_of s).fields
+  fielding_found e y ey = ey ∙ here true e
 
-    pub fielding_low : LowSpot x → (y : Shown) → y ≡ shown_in i x → LowShown y
-    fielding_low low y ey = shown_low i x (omega (arith, index_low s starts colons p k i more)) low y ey
+  pub fielding_next : x.found ≡ false → Fielding h with c s (i + 1)
+  fielding_next e = record {
+    same = ap (λ (n : ℕ). first_shown (field_spot h with c) n (drop (i + 1) (request_of s).fields)) (add-one i) ∙ here false e;
+  }
 
-    pub fielding_next : x.found ≡ false → Fielding h with c s (i + 1)
-    fielding_next e = record {
-      same = ap (λ (n : ℕ). first_shown (field_spot h with c) n (drop (i + 1) (request_of s).fields)) (add-one i) ∙ here false e;
-    }
+-- it is one of few
+pub fielding_low : (s starts colons : List ℕ) (p : Places) → Placed s starts colons p → (i : ℕ) → i < p.fields → (x : Spot) → LowSpot x
+    → (y : Shown) → y ≡ shown_in i x → LowShown y
+fielding_low s starts colons p k i more x low y ey = shown_low i x (omega (arith, index_low s starts colons p k i more)) low y ey
 
 -- ---- the lines
 

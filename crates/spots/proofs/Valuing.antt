@@ -1,12 +1,14 @@
 -- The first value that a Content pattern matches: the loop over the values of a field, and the two ways to its values.
-use mathlib.Core.Bool.{Bool, true, false, not}
+use Rattle.std.specs.Prelude.{Option, Some, None, is_some}
+use mathlib.Core.Bool.{Bool, true, false}
 use mathlib.Core.Path.{◌≡◌, refl, sym, ap, ap₂, ◌∙◌, subst}
 use mathlib.Core.List.{List, [], ◌∷◌}
 use Prim.Native.Nat.{ℕ, suc, ◌+◌, ◌-◌, ◌≤◌, ◌<◌}
 use native.Mathlib.Numerals.{add-one}
 use native.Mathlib.Omega.{arith}
 use lib.ListN.{length, take}
-use borrow.Author.Tests.{not-true, not-false}
+use Rattle.pattern.specs.declared.prepared.Prepared.{Prepared}
+use Rattle.trials.specs.Inner.Patterns.{content_bytes}
 use Rattle.octets.specs.Lists.{pick}
 use Rattle.pattern.specs.Inner.Answers.{meets_text}
 use Rattle.place.specs.Inner.Texts.{place_text}
@@ -104,14 +106,14 @@ module _ (c v : List ℕ) (p value : ℕ) (k : Seeking c v p value) where
 -- ---- a value that is not cut
 
 module _ (c v : List ℕ) (at : Place) (ea : at ≡ place_text false c v) where
-  pub one_none : not at.found ≡ true → (x : Spot) → x ≡ no_spot → x ≡ values_spot c (v ∷ [])
+  pub one_none : at.found ≡ false → (x : Spot) → x ≡ no_spot → x ≡ values_spot c (v ∷ [])
   unfolding values_spot first_value
-  one_none h x ex = ex ∙ sym (value_later c v at ea (not-true at.found h) 0 [])
+  one_none h x ex = ex ∙ sym (value_later c v at ea h 0 [])
 
-  pub one_found : not at.found ≡ false
+  pub one_found : at.found ≡ true
       → ◌≡◌ {A = Spot} (record { found = true; value = 0; start = at.start; size = at.size }) (values_spot c (v ∷ []))
   unfolding values_spot
-  one_found h = value_here c v at ea (not-false at.found h) 0 []
+  one_found h = value_here c v at ea h 0 []
 
   pub one_low : length v ≤ 65535 → LowSpot (record { found = true; value = 0; start = at.start; size = at.size })
   one_low short = low_here c v at ea short 0 (omega arith)
@@ -133,17 +135,26 @@ module _ (raw before room : List ℕ) (n : ℕ) (en : n ≡ length (reduced raw)
 
 -- ---- an item, by its name and its values
 
-module _ (fold : Bool) (h : List ℕ) (with : Bool) (c name : List ℕ) (vs : List (List ℕ)) (m : Bool) (em : m ≡ meets_text fold h name) where
-  item_by : (a b : Bool) → m ≡ a → with ≡ b → pick a (pick b (values_spot c vs) bare_spot) no_spot ≡ item_spot fold h with c name vs
+module _ (fold : Bool) (h name : List ℕ) (vs : List (List ℕ)) (m : Bool) (em : m ≡ meets_text fold h name) where
+  item_by : (with : Bool) (c : List ℕ) (a b : Bool) → m ≡ a → with ≡ b
+      → pick a (pick b (values_spot c vs) bare_spot) no_spot ≡ item_spot fold h with c name vs
   unfolding item_spot
-  item_by a b ea eb = ap₂ (λ (x y : Bool). pick x (pick y (values_spot c vs) bare_spot) no_spot) (sym ea ∙ em) (sym eb)
+  item_by with c a b ea eb = ap₂ (λ (x y : Bool). pick x (pick y (values_spot c vs) bare_spot) no_spot) (sym ea ∙ em) (sym eb)
 
-  pub item_no : not m ≡ true → (x : Spot) → x ≡ no_spot → x ≡ item_spot fold h with c name vs
-  item_no k x ex = ex ∙ item_by false with (not-true m k) refl
+  pub item_no : m ≡ false → (with : Bool) (c : List ℕ) (x : Spot) → x ≡ no_spot → x ≡ item_spot fold h with c name vs
+  item_no k with c x ex = ex ∙ item_by with c false with k refl
 
-  module _ (k : not m ≡ false) where
-    pub item_bare : not with ≡ true → (x : Spot) → x ≡ bare_spot → x ≡ item_spot fold h with c name vs
-    item_bare w x ex = ex ∙ item_by true false (not-false m k) (not-true with w)
+  module _ (k : m ≡ true) (o : Option Prepared) where
+    pub item_bare : o ≡ None → (x : Spot) → x ≡ bare_spot → x ≡ item_spot fold h (is_some o) (content_bytes o) name vs
+    item_bare e x ex = ex ∙ item_by (is_some o) (content_bytes o) true false k (ap is_some e)
 
-    pub item_with : not with ≡ false → (x : Spot) → x ≡ values_spot c vs → x ≡ item_spot fold h with c name vs
-    item_with w x ex = ex ∙ item_by true true (not-false m k) (not-false with w)
+    pub item_with : (p : Prepared) → o ≡ Some p → (x : Spot) → x ≡ values_spot p.bytes.now vs
+        → x ≡ item_spot fold h (is_some o) (content_bytes o) name vs
+    item_with p e x ex =
+        ex ∙ ap (λ (y : Option Prepared). values_spot (content_bytes y) vs) (sym e)
+        ∙ item_by (is_some o) (content_bytes o) true true k (ap is_some e)
+
+-- ---- a pattern that is for texts alone
+
+pub placed_as : (f g : Bool) → f ≡ g → (p t : List ℕ) (at : Place) → at ≡ place_text f p t → at ≡ place_text g p t
+placed_as f g e p t at ea = ea ∙ ap (λ (b : Bool). place_text b p t) e

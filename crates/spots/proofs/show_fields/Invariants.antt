@@ -1,13 +1,7 @@
-use mathlib.Core.Path.{◌≡◌}
-use Prim.Native.Nat.{◌-◌, ◌≤◌}
-use lib.ListN.{length}
+use Rattle.std.specs.Prelude.{is_some}
+use Rattle.trials.specs.Inner.Patterns.{content_bytes}
 use Rattle.spots.proofs.Showing.{Fielding}
 use Rattle.spots.proofs.show_fields.Given as goal
 
 abbrev pub invariant-loop-i : goal.invariant-loop-i
-invariant-loop-i l =
-    Fielding l.h l.with l.c l.s l.i × (length l.room ≡ length l.initial.room) × (length l.s ≤ length l.room)
-
-abbrev pub decreases-loop-i : goal.decreases-loop-i
-decreases-loop-i l =
-    l.fields - l.i
+invariant-loop-i l = Fielding l.patterns.name.bytes.now (is_some l.patterns.content) (content_bytes l.patterns.content) l.request.bytes.now l.i

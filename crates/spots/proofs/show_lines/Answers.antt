@@ -15,8 +15,8 @@ loop-next-smaller-in-Other c = search other_less
 pub loop-next-preserved-in-Other : goal.loop-next-preserved-in-Other
 loop-next-preserved-in-Other c = search lining_other
 
-pub overflow_add-after : goal.overflow_add-after
-overflow_add-after c = record { fits = search type_room }
+pub overflow_add-start : goal.overflow_add-start
+overflow_add-start c = record { fits = search type_room }
 
 pub slice_bounds-spot_in_line-end : goal.slice_bounds-spot_in_line-end
 slice_bounds-spot_in_line-end c = search (rules, type_inside)
@@ -31,7 +31,7 @@ pub slice_bounds-spot_in_line-end-in-Typed : goal.slice_bounds-spot_in_line-end-
 slice_bounds-spot_in_line-end-in-Typed c = search (rules, typed_inside)
 
 pub spot_in_line-x-requires : goal.spot_in_line-x-requires
-spot_in_line-x-requires c = record { value_len_bound = search line_value_short; ready = search rules; ready_2 = search rules }
+spot_in_line-x-requires c = record { value_len_bound = search line_value_short; written = c.requires.written }
 
 pub returns-then-x : goal.returns-then-x
 returns-then-x c = (search lining_found, search lining_low)
