@@ -1,23 +1,22 @@
 -- The call: row k of an image that stands, the request, and the image.
+use Rattle.std.specs.Prelude.{Option as Found, Some, None}
 use mathlib.Core.Option.{Option, none, some}
-use mathlib.Core.Path.{◌≡◌, sym, ap, ap₂, ◌∙◌}
+use mathlib.Core.Path.{◌≡◌, sym, ap, ◌∙◌}
 use mathlib.Core.List.{List}
 use Prim.Native.Nat.{ℕ, ◌+◌, ◌*◌, ◌≤◌, ◌<◌}
 use lib.ListN.{get_elem?}
 use Rattle.entries.specs.Inner.Places.{row_numbers}
 use Rattle.entries.specs.declared.Row.{Row}
-use Rattle.profile.specs.Inner.Decoded.{stored_in, test_from, row_from, profile_in}
-use Rattle.profile.specs.Image.{Stored, Judged}
+use Rattle.profile.specs.Inner.Decoded.{strings, test_from, row_from, profile_in}
+use Rattle.profile.specs.Image.{Judged}
 use Rattle.profile.specs.Image as image
 use Rattle.profile.specs.Inner.Kept.{Judges, Standing, nth_row}
 use Rattle.profile.specs.declared.Judgement.{Judgement}
 use Rattle.profile.specs.declared.Layout.{Layout}
-use Rattle.profile.proofs.Standings.{strings_in, row_is, row_past, refused_as, stands_as, accepted_as}
+use Rattle.profile.proofs.Standings.{row_is, row_past, refused_as, stands_as, accepted_as}
 use Rattle.request.specs.Request.{Request, read_request}
 use Rattle.request.specs.Inner.Places.{Read, request_of}
 use Rattle.request.specs.declared.Places.{Places}
-use Rattle.request.specs.declared.Reading.{Reading}
-use Rattle.request.specs.declared.Reading.TheVariants.{Unreadable, Readable}
 use Rattle.request.proofs.Readings.{unreadable, reads}
 use Rattle.spots.specs.declared.Shown.{Shown}
 use Rattle.show.specs.Show.{test_shown, refuse_show, answered, show_row, show_read, show_judged, show, Shows}
@@ -26,21 +25,21 @@ use Rattle.show.specs.declared.Answer.{Answer}
 -- ---- row k
 
 module _ (s table : List ℕ) (y : Layout) (stands : Standing s table y) (k : ℕ) (r : Row) (er : r ≡ row_numbers s (y.rows + 7 * k)) where
-  pub kth_shown : (q : Request) (v : Shown) → v ≡ test_shown q (test_from (stored_in s y.strings table) r) → v ≡ test_shown q (nth_row s y k).test
+  pub kth_shown : (q : Request) (v : Shown) → v ≡ test_shown q (test_from (strings s) r) → v ≡ test_shown q (nth_row s y k).test
   unfolding row_from
-  kth_shown q v ev = ev ∙ ap₂ (λ (strs : List Stored) (x : Row). test_shown q (test_from strs x)) (strings_in s table y stands) er
+  kth_shown q v ev = ev ∙ ap (λ (x : Row). test_shown q (test_from (strings s) x)) er
 
 -- ---- the request
 
-module _ (s starts colons starts' colons' : List ℕ) (rd : Reading) (read : Read s starts colons starts' colons' rd) (img table : List ℕ) (y : Layout)
+module _ (s starts colons starts' colons' : List ℕ) (rd : Found Places) (read : Read s starts colons starts' colons' rd) (img table : List ℕ) (y : Layout)
     (stands : Standing img table y) (k : ℕ) (a : Answer) where
   abbrev whole : Answer
   whole = show_read (profile_in img) (read_request s) k
 
-  pub show_unreadable : rd ≡ Unreadable → a ≡ refuse_show 7 0 → a ≡ whole
+  pub show_unreadable : rd ≡ None → a ≡ refuse_show 7 0 → a ≡ whole
   show_unreadable e ea = ea ∙ sym (ap (λ (o : Option Request). show_read (profile_in img) o k) (unreadable s starts colons starts' colons' rd read e))
 
-  module _ (p : Places) (e : rd ≡ Readable p) where
+  module _ (p : Places) (e : rd ≡ Some p) where
     by_row : (o : Option image.Row) → get_elem? (profile_in img).rows k ≡ o → show_row (request_of s) o ≡ whole
     by_row o eo =
         ap (show_row (request_of s)) (sym eo)

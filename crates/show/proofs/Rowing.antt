@@ -1,10 +1,12 @@
 -- What is shown for a row, by the bytes of its patterns and by its kind.
+use Rattle.std.specs.Prelude.{is_some}
 use mathlib.Core.Bool.{Bool, true, false, not}
 use mathlib.Core.Option.{Option, none, some}
 use mathlib.Core.Path.{◌≡◌, refl, sym, ap, ap₂, ◌∙◌}
 use mathlib.Core.List.{List, ◌∷◌, []}
 use Prim.Native.Nat.{ℕ}
 use lib.Dec.{eqb}
+use borrow.Author.Tests.{eqb-false}
 use Rattle.octets.specs.Lists.{pick}
 use Rattle.basic.specs.Pattern.{Pattern}
 use Rattle.basic.specs.Reading.{read_pattern}
@@ -16,10 +18,11 @@ use Rattle.profile.specs.Inner.Decoded.{or_empty, pattern_of, test_from}
 use Rattle.profile.specs.Image.{Stored}
 use Rattle.profile.specs.Inner.Kept.{Matchable}
 use Rattle.request.specs.Request.{Request, Field, request_lines}
-use Rattle.request.specs.Inner.Places.{request_of, Placed}
-use Rattle.request.specs.declared.Places.{Places}
-use Rattle.request.proofs.Readings.{lines_are}
-use Rattle.rows.proofs.ByKind.{rest, rest_is, chosen, kind_is, first_text, content_text, absent, first_read, content_read, test_is}
+use Rattle.request.specs.Inner.Places.{request_of}
+use Rattle.trials.specs.Inner.Patterns.{content_bytes}
+use Rattle.trials.specs.declared.row_patterns.RowPatterns.{RowPatterns}
+use Rattle.rows.specs.Inner.Tried.{PatternsOf}
+use Rattle.rows.proofs.ByKind.{chosen, kind_is, first_text, content_text, absent, first_read, content_read, test_is}
 use Rattle.spots.specs.Spots.{no_spot, bare_spot, none_shown, first_value, first_shown}
 use Rattle.spots.specs.Inner.Steps.{values_spot, item_spot, field_spot, line_spot}
 use Rattle.spots.specs.declared.Shown.{Shown}
@@ -34,17 +37,26 @@ answered_by x n e = ap (λ (k : ℕ). record { refusal = 0; place = 0; found = k
 
 -- ---- over the body or the head
 
-module _ (s starts colons : List ℕ) (p : Places) (k : Placed s starts colons p) (b : Bool) (h : List ℕ) (with : Bool) (c : List ℕ) (v : Shown) where
-  pub shown_body : b ≡ true → v ≡ first_shown (line_spot h with c) 0 (session_lines (rest s starts colons p k)) → v ≡ patterns_shown (request_of s) b h with c
-  unfolding patterns_shown
-  shown_body e ev =
-      ev ∙ ap (λ (l : List Line). first_shown (line_spot h with c) 0 l) (ap session_lines (rest_is s starts colons p k) ∙ lines_are s starts colons p k)
-      ∙ sym (ap (λ (t : Bool). patterns_shown (request_of s) t h with c) e)
-
-pub shown_head : (s : List ℕ) (b : Bool) (h : List ℕ) (with : Bool) (c : List ℕ) → b ≡ false → (v : Shown)
-    → v ≡ first_shown (field_spot h with c) 0 (request_of s).fields → v ≡ patterns_shown (request_of s) b h with c
+pub shown_body : (s : List ℕ) (n : Bool) (h : List ℕ) (with : Bool) (c rest : List ℕ) → n ≡ false → session_lines rest ≡ request_lines (request_of s)
+    → (v : Shown) → v ≡ first_shown (line_spot h with c) 0 (session_lines rest) → v ≡ patterns_shown (request_of s) (not n) h with c
 unfolding patterns_shown
-shown_head s b h with c e v ev = ev ∙ sym (ap (λ (t : Bool). patterns_shown (request_of s) t h with c) e)
+shown_body s n h with c rest e l v ev =
+    ev ∙ ap (λ (x : List Line). first_shown (line_spot h with c) 0 x) l ∙ sym (ap (λ (t : Bool). patterns_shown (request_of s) (not t) h with c) e)
+
+pub shown_head : (s : List ℕ) (n : Bool) (h : List ℕ) (with : Bool) (c : List ℕ) → n ≡ true → (v : Shown)
+    → v ≡ first_shown (field_spot h with c) 0 (request_of s).fields → v ≡ patterns_shown (request_of s) (not n) h with c
+unfolding patterns_shown
+shown_head s n h with c e v ev = ev ∙ sym (ap (λ (t : Bool). patterns_shown (request_of s) (not t) h with c) e)
+
+-- without Content its bytes are not looked at
+no_content : (q : Request) (b : Bool) (h c d : List ℕ) → patterns_shown q b h false c ≡ patterns_shown q b h false d
+unfolding patterns_shown field_spot line_spot item_spot
+no_content q b h c d = refl
+
+content_free : (q : Request) (b : Bool) (h c d : List ℕ) (absent : Bool) → (absent ≡ false → c ≡ d)
+    → patterns_shown q b h (not absent) c ≡ patterns_shown q b h (not absent) d
+content_free q b h c d true e = no_content q b h c d
+content_free q b h c d false e = ap (patterns_shown q b h true) (e refl)
 
 -- ---- by the patterns, where the bytes are patterns
 
@@ -103,7 +115,13 @@ module _ (strs : List Stored) (r : Row) (matchable : Matchable strs r) (not_case
   kinds true e = fields_as h c (or_empty (read_pattern h)) (or_empty (read_pattern c)) h_read (absent r) c_read q.fields ∙ sym (of_kind true e)
   kinds false e = lines_as h c (or_empty (read_pattern h)) (or_empty (read_pattern c)) h_read (absent r) c_read (request_lines q) ∙ sym (of_kind false e)
 
-  pub pattern_shown : (t u : List ℕ) → t ≡ h → u ≡ c → (v : Shown) → v ≡ patterns_shown q (not (eqb r.kind 2)) t (not (eqb r.second 65535)) u
-      → v ≡ test_shown q (test_from strs r)
-  pattern_shown t u et eu v ev =
-      ev ∙ ap₂ (λ (x y : List ℕ). patterns_shown q (not (eqb r.kind 2)) x (not (absent r)) y) et eu ∙ kinds (eqb r.kind 2) refl
+  module _ (p : RowPatterns) (k : PatternsOf strs r p) where
+    by_bytes : (b : Bool) → patterns_shown q b p.name.bytes.now (is_some p.content) (content_bytes p.content) ≡ patterns_shown q b h (not (absent r)) c
+    by_bytes b =
+        ap₂ (λ (t : List ℕ) (w : Bool). patterns_shown q b t w (content_bytes p.content)) k.name_is k.content.present
+        ∙ content_free q b h (content_bytes p.content) c (absent r) (λ e. k.content.named (eqb-false r.second 65535 e))
+
+    pub pattern_shown : (v : Shown) → v ≡ patterns_shown q (not p.name.for_names) p.name.bytes.now (is_some p.content) (content_bytes p.content)
+        → v ≡ test_shown q (test_from strs r)
+    pattern_shown v ev =
+        ev ∙ by_bytes (not p.name.for_names) ∙ ap (λ (n : Bool). patterns_shown q (not n) h (not (absent r)) c) k.for_names ∙ kinds (eqb r.kind 2) refl
