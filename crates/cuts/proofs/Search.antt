@@ -106,7 +106,7 @@ unfolding first
 first_found p Yes No hit miss =
     index_from_first (first p) Yes No refl (λ x s y. first_yes p x s (hit x s y)) (λ x s n. first_no p x s (miss x s n) ∙ sym (add-one (first p s)))
 
--- a search for one byte
+-- a search for one byte, by the library's word
 pub place_found : (b : ℕ) (s : List ℕ) (r : Option ℕ)
     → MatchOption r (AllWithin (λ x. x ≡ b → ⊥) s 0 (length s)) (λ i. (i < length s) × HoldsAt (λ x. x ≡ b) s i × AllWithin (λ x. x ≡ b → ⊥) s 0 i)
     → first (begins (b ∷ [])) s ≡ unwrap_or r (length s)
@@ -114,7 +114,15 @@ place_found b =
     first_found (begins (b ∷ [])) (λ x. x ≡ b) (λ x. x ≡ b → ⊥)
     (λ x s e. rw (eq-eqb b x (sym e))) (λ x s n. rw (ne_eqb b x (λ e. n (sym e))))
 
--- and for one that is not white
+-- and by a loop over the places
+module _ (s : List ℕ) (b t i : ℕ) (k : Came (begins (b ∷ [])) s t i) (inside : i < length s) where
+  pub place_here : get_or s i 0 ≡ b → i ≡ t
+  place_here h = came_found (begins (b ∷ [])) s t i k inside (rw (drop-cons s i 0 inside, eq-eqb b (get_or s i 0) (sym h)))
+
+  pub place_next : (get_or s i 0 ≡ b → ⊥) → Came (begins (b ∷ [])) s t (i + 1)
+  place_next h = came_next (begins (b ∷ [])) s t i k inside (rw (drop-cons s i 0 inside, ne_eqb b (get_or s i 0) (λ e. h (sym e))))
+
+-- a search for a byte that is not white
 pub blanks_found : (s : List ℕ) (r : Option ℕ)
     → MatchOption r (AllWithin (λ x. white x ≡ true) s 0 (length s)) (λ i. (i < length s) × HoldsAt (λ x. white x ≡ false) s i × AllWithin (λ x. white x ≡ true) s 0 i)
     → first text_here s ≡ unwrap_or r (length s)

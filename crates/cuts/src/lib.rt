@@ -12,10 +12,13 @@ pub fn place_of(s: &[u8], from: usize, b: u8) -> usize
     requires { from ≤ length s.now }
     ensures { result ≡ from + first (begins (b ∷ [])) (drop from s.now) }
 {
-    match s[from..].iter().position(|x| *x == b) {
-        Some(k) => from + k,
-        None => s.len(),
+    // By the index alone: `position` counts from `from`, and with its count beside the index the loop has a step more.
+    for i in from..s.len() {
+        if s[i] == b {
+            return i;
+        }
     }
+    s.len()
 }
 
 // SP or HTAB.
