@@ -32,18 +32,18 @@ pub fn normalise(raw: &[u8], dst: &mut [u8]) -> usize
 {
     let mut gap = false;
     let mut n: usize = 0;
-    for b in raw {
-        if is_space(*b) {
+    for &b in raw {
+        if is_space(b) {
             gap = 0 < n;
-        } else if gap {
-            dst[n] = b' ';
-            dst[n + 1] = *b;
-            n += 2;
-            gap = false;
-        } else {
-            dst[n] = *b;
-            n += 1;
+            continue;
         }
+        if gap {
+            dst[n] = b' ';
+            n += 1;
+            gap = false;
+        }
+        dst[n] = b;
+        n += 1;
     }
     n
 }
