@@ -12,21 +12,17 @@ use borrow.Author.Tests.{ne_eqb, eq-eqb, eqb-true, eqb-false, not-true, not-fals
 use Rattle.octets.specs.Lists.{text, pick, some_of, peek}
 use Rattle.octets.specs.Option.{◌>>=◌}
 use Rattle.basic.specs.Pattern.{Range, Atom, byte, dot, list}
-use Rattle.basic.specs.Inner.Places.{map_got, items_of, PieceAt}
+use Rattle.std.specs.Prelude as Std
+use Rattle.std.specs.Prelude.{Some, None}
+use Rattle.basic.specs.Inner.Places.{map_got, items_of, PieceAt, PieceHere}
 use Rattle.basic.specs.Reading.{Read, read, bracket, escaped, asterisk, atom}
 use Rattle.basic.specs.Inner.Drawn.{drawn}
 use Rattle.basic.specs.declared.reader.Piece.{Piece}
 use Rattle.basic.proofs.Items.{passed, stopped}
-use Rattle.basic.proofs.Listing.{piece_none, piece_some}
+use Rattle.basic.proofs.Listing.{piece_some}
 use Rattle.basic.proofs.Places.{peek_in, peek_inside}
 
 -- ---- what an answer says of what was read
-
-pub piece_found : {whole : Option (Read (List ℕ))} {s : List ℕ} {i : ℕ} {r : Piece} → PieceAt whole s i r → (r.end ≡ 0 → ⊥) → whole ≡ read r.set (drop r.end s)
-piece_found {s = s} {r = r} a n = a.reads ∙ ap (λ (t : Bool). pick t none (read r.set (drop r.end s))) (ne_eqb r.end 0 n)
-
-pub piece_lost : {whole : Option (Read (List ℕ))} {s : List ℕ} {i : ℕ} {r : Piece} → PieceAt whole s i r → r.end ≡ 0 → whole ≡ none
-piece_lost {s = s} {r = r} a z = a.reads ∙ ap (λ (t : Bool). pick t none (read r.set (drop r.end s))) (eq-eqb r.end 0 z)
 
 -- what was read, of which f gives the set
 pub record Got {A : Type 0} (f : A → List ℕ) (o : Option (Read A)) (set u : List ℕ) : Type 0 where
@@ -49,25 +45,25 @@ map_some {A} f (some x) set u e =
     }
 
 -- a place further on
-pub piece_on : (whole whole' : Option (Read (List ℕ))) (s : List ℕ) (i j : ℕ) (r : Piece) → whole ≡ whole' → i ≤ j → PieceAt whole' s j r → PieceAt whole s i r
-piece_on whole whole' s i j r e h a =
-    record { reads = e ∙ a.reads; forward = λ n. let f : j < r.end = a.forward n in omega arith; inside = a.inside }
+pub piece_on : (whole whole' : Option (Read (List ℕ))) (s : List ℕ) (i j : ℕ) (r : Std.Option Piece) → whole ≡ whole' → i ≤ j → PieceAt whole' s j r → PieceAt whole s i r
+piece_on whole whole' s i j None e h a = e ∙ a
+piece_on whole whole' s i j (Some r) e h a = record { reads = e ∙ a.reads; forward = let f : j < r.end = a.forward in omega arith; inside = a.inside }
 
 -- ---- lists
 
-module _ (s : List ℕ) (from : ℕ) (negated build : Bool) (p : Piece) (a : PieceAt (map_got (λ l. drawn build (list false l)) (items_of true (drop from s))) s from p) where
-  pub list_refused : (r : Piece) → p.end ≡ 0 → r.end ≡ 0 → PieceAt (map_got (λ l. drawn build (list negated l)) (items_of true (drop from s))) s from r
-  list_refused r z w =
-      piece_none (map_got (λ l. drawn build (list negated l)) (items_of true (drop from s))) s from r
-      (ap (map_got (λ l. drawn build (list negated l))) (map_none (λ l. drawn build (list false l)) (items_of true (drop from s)) (piece_lost a z))) w
+module _ (s : List ℕ) (from : ℕ) (negated build : Bool) where
+  pub list_refused : map_got (λ l. drawn build (list false l)) (items_of true (drop from s)) ≡ none
+      → map_got (λ l. drawn build (list negated l)) (items_of true (drop from s)) ≡ none
+  list_refused e = ap (map_got (λ l. drawn build (list negated l))) (map_none (λ l. drawn build (list false l)) (items_of true (drop from s)) e)
 
-  pub list_closed : (set : List ℕ) → (p.end ≡ 0 → ⊥) → ((l : List Range) → p.set ≡ drawn build (list false l) → set ≡ drawn build (list negated l))
-      → PieceAt (map_got (λ l. drawn build (list negated l)) (items_of true (drop from s))) s from (record { end = p.end; set = set })
-  list_closed set n c =
-      let g = map_some (λ l. drawn build (list false l)) (items_of true (drop from s)) p.set (drop p.end s) (piece_found a n) in
+  pub list_closed : (p : Piece) → PieceHere (map_got (λ l. drawn build (list false l)) (items_of true (drop from s))) s from p
+      → (set : List ℕ) → ((l : List Range) → p.set ≡ drawn build (list false l) → set ≡ drawn build (list negated l))
+      → PieceHere (map_got (λ l. drawn build (list negated l)) (items_of true (drop from s))) s from (record { end = p.end; set = set })
+  list_closed p a set c =
+      let g = map_some (λ l. drawn build (list false l)) (items_of true (drop from s)) p.set (drop p.end s) a.reads in
       piece_some (map_got (λ l. drawn build (list negated l)) (items_of true (drop from s))) s from p.end set
       (ap (map_got (λ l. drawn build (list negated l))) g.is ∙ ap (λ (l : List ℕ). read l (drop p.end s)) (sym (c g.value (sym g.drawing))))
-      (a.forward n) a.inside
+      a.forward a.inside
 
 -- the list behind its `^`, or with none
 bracket_by : Bool → List ℕ → Option (Read Atom)
@@ -78,7 +74,7 @@ by_list : (build neg : Bool) (o : Option (Read (List Range)))
 by_list build neg none = refl
 by_list build neg (some l) = refl
 
-module _ (s : List ℕ) (i : ℕ) (build : Bool) (r : Piece) (next : ℕ) (n : next ≡ peek (drop i s)) where
+module _ (s : List ℕ) (i : ℕ) (build : Bool) (r : Std.Option Piece) (next : ℕ) (n : next ≡ peek (drop i s)) where
   bracket_is : (t : Bool) → eqb next 94 ≡ t → bracket (drop i s) ≡ bracket_by t (pick t (drop 1 (drop i s)) (drop i s))
   unfolding bracket_by
   bracket_is t e = ap (λ (x : Bool). bracket_by x (pick x (drop 1 (drop i s)) (drop i s))) (ap (λ (k : ℕ). eqb k 94) (sym n) ∙ e)
@@ -117,16 +113,14 @@ module _ (s : List ℕ) (i next : ℕ) (n : next ≡ peek (drop i s)) (t : Bool)
   special_is : t ≡ some_of (eqb (peek (drop i s))) (text ".[\\*^$")
   special_is = k ∙ ap (λ (x : ℕ). some_of (eqb x) (text ".[\\*^$")) n
 
-  pub pair_refused : (build : Bool) (r : Piece) → not t ≡ true → r.end ≡ 0 → PieceAt (map_got (drawn build) (escaped (drop i s))) s i r
-  pair_refused build r e z =
-      piece_none (map_got (drawn build) (escaped (drop i s))) s i r
-      (ap (map_got (drawn build)) (stopped (some_of (eqb (peek (drop i s))) (text ".[\\*^$")) _ (sym special_is ∙ not-true t e))) z
+  pub pair_refused : (build : Bool) → not t ≡ true → map_got (drawn build) (escaped (drop i s)) ≡ none
+  pair_refused build e = ap (map_got (drawn build)) (stopped (some_of (eqb (peek (drop i s))) (text ".[\\*^$")) _ (sym special_is ∙ not-true t e))
 
   pub pair_inside : not t ≡ false → i < length s
   pair_inside e = peek_inside s i (λ z. true≢false (sym (not-false t e) ∙ special_is ∙ ap (λ (x : ℕ). some_of (eqb x) (text ".[\\*^$")) z))
 
   pub pair_on : (build : Bool) (set : List ℕ) → not t ≡ false → set ≡ drawn build (byte (get_or s i 0))
-      → PieceAt (map_got (drawn build) (escaped (drop i s))) s i (record { end = i + 1; set = set })
+      → PieceHere (map_got (drawn build) (escaped (drop i s))) s i (record { end = i + 1; set = set })
   pair_on build set e d =
       let h : i < length s = pair_inside e in
       piece_some (map_got (drawn build) (escaped (drop i s))) s i (i + 1) set
@@ -146,18 +140,18 @@ module _ (s : List ℕ) (i : ℕ) (first build : Bool) (h : i < length s) where
   abbrev whole : Option (Read (List ℕ))
   whole = map_got (drawn build) (atom first b rest)
 
-  one_byte : (a : Atom) (set : List ℕ) → atom first b rest ≡ read a rest → set ≡ drawn build a → PieceAt whole s i (record { end = i + 1; set = set })
+  one_byte : (a : Atom) (set : List ℕ) → atom first b rest ≡ read a rest → set ≡ drawn build a → PieceHere whole s i (record { end = i + 1; set = set })
   one_byte a set e d =
       piece_some whole s i (i + 1) set (ap (map_got (drawn build)) e ∙ ap (λ (l : List ℕ). read l rest) (sym d)) (omega arith) (omega arith)
 
-  pub atom_dot : (set : List ℕ) → b ≡ 46 → set ≡ drawn build dot → PieceAt whole s i (record { end = i + 1; set = set })
+  pub atom_dot : (set : List ℕ) → b ≡ 46 → set ≡ drawn build dot → PieceHere whole s i (record { end = i + 1; set = set })
   atom_dot set e d = one_byte dot set (ap (λ (k : ℕ). atom first k rest) e) d
 
-  pub atom_list : (r : Piece) → b ≡ 91 → PieceAt (map_got (drawn build) (bracket rest)) s (i + 1) r → PieceAt whole s i r
+  pub atom_list : (r : Std.Option Piece) → b ≡ 91 → PieceAt (map_got (drawn build) (bracket rest)) s (i + 1) r → PieceAt whole s i r
   atom_list r e a =
       piece_on whole (map_got (drawn build) (bracket rest)) s i (i + 1) r (ap (λ (k : ℕ). map_got (drawn build) (atom first k rest)) e) (omega arith) a
 
-  pub atom_pair : (r : Piece) → b ≡ 92 → PieceAt (map_got (drawn build) (escaped rest)) s (i + 1) r → PieceAt whole s i r
+  pub atom_pair : (r : Std.Option Piece) → b ≡ 92 → PieceAt (map_got (drawn build) (escaped rest)) s (i + 1) r → PieceAt whole s i r
   atom_pair r e a =
       piece_on whole (map_got (drawn build) (escaped rest)) s i (i + 1) r (ap (λ (k : ℕ). map_got (drawn build) (atom first k rest)) e) (omega arith) a
 
@@ -165,8 +159,8 @@ module _ (s : List ℕ) (i : ℕ) (first build : Bool) (h : i < length s) where
   star_refused true e q = ap (λ (k : ℕ). atom first k rest) (eqb-true b 42 (sym q)) ∙ ap (λ (x : Bool). asterisk x rest) (not-true first e)
   star_refused false e q = absurd (true≢false (sym e))
 
-  pub atom_star : (r : Piece) → (eqb b 42 && not first) ≡ true → r.end ≡ 0 → PieceAt whole s i r
-  atom_star r e z = piece_none whole s i r (ap (map_got (drawn build)) (star_refused (eqb b 42) e refl)) z
+  pub atom_star : (eqb b 42 && not first) ≡ true → whole ≡ none
+  atom_star e = ap (map_got (drawn build)) (star_refused (eqb b 42) e refl)
 
   module _ (d : b ≡ 46 → ⊥) (l : b ≡ 91 → ⊥) (p : b ≡ 92 → ⊥) where
     ordinary : (t : Bool) → t ≡ eqb b 42 → (t && not first) ≡ false → atom first b rest ≡ read (byte b) rest
@@ -176,7 +170,7 @@ module _ (s : List ℕ) (i : ℕ) (first build : Bool) (h : i < length s) where
         ∙ ap (λ (k : ℕ). read (byte k) rest) (sym (eqb-true b 42 (sym q)))
     ordinary false q e = rw (ne_eqb b 46 d, ne_eqb b 91 l, ne_eqb b 92 p, ← q) refl
 
-    pub atom_byte : (set : List ℕ) → (eqb b 42 && not first) ≡ false → set ≡ drawn build (byte b) → PieceAt whole s i (record { end = i + 1; set = set })
+    pub atom_byte : (set : List ℕ) → (eqb b 42 && not first) ≡ false → set ≡ drawn build (byte b) → PieceHere whole s i (record { end = i + 1; set = set })
     atom_byte set e q = one_byte (byte b) set (ordinary (eqb b 42) refl e) q
 
   -- none of the four: each is told from the byte
@@ -192,9 +186,9 @@ module _ (s : List ℕ) (i : ℕ) (first build : Bool) (h : i < length s) where
       go false e₁ false e₂ false e₃ true e₄ n = absurd (true≢false (sym n))
 
   pub atom_plain : (set : List ℕ) (t : Bool) → t ≡ not (some_of (eqb b) (text ".[\\*")) → t ≡ true → set ≡ drawn build (byte b)
-      → PieceAt whole s i (record { end = i + 1; set = set })
+      → PieceHere whole s i (record { end = i + 1; set = set })
   atom_plain set t e y q = one_byte (byte b) set (plain_is t e y) q
 
   -- whether sets are asked for is known
-  pub atom_built : (r : Piece) (t : Bool) → build ≡ t → PieceAt (map_got (drawn t) (atom first b rest)) s i r → PieceAt whole s i r
+  pub atom_built : (r : Std.Option Piece) (t : Bool) → build ≡ t → PieceAt (map_got (drawn t) (atom first b rest)) s i r → PieceAt whole s i r
   atom_built r t e a = subst⁻¹ (λ (x : Bool). PieceAt (map_got (drawn x) (atom first b rest)) s i r) e a

@@ -15,11 +15,11 @@ use Rattle.octets.specs.Option.{◌>>=◌, holds}
 use Rattle.octets.proofs.Tests.{T_of, is_true, left, either}
 use Rattle.machine.proofs.Places.{drop_at, empty_at}
 use Rattle.basic.specs.Pattern.{Atom, Elem, Pattern}
-use Rattle.basic.specs.Inner.Places.{map_got, body_of, start_of, stop_of, PieceAt}
+use Rattle.basic.specs.Inner.Places.{map_got, body_of, start_of, stop_of, PieceHere}
 use Rattle.basic.specs.Reading.{Read, atom, elem, Body, read_pattern}
 use Rattle.basic.specs.Inner.Judged.{was_read, is_pattern}
 use Rattle.basic.specs.declared.reader.Piece.{Piece}
-use Rattle.basic.proofs.Atoms.{piece_found, piece_lost, map_none, map_some}
+use Rattle.basic.proofs.Atoms.{map_none, map_some}
 use Rattle.basic.proofs.Countdown.{body_next, body_none, body_fuel}
 use Rattle.basic.proofs.Places.{peek_in, peek_inside}
 
@@ -144,13 +144,13 @@ module _ (s : List ℕ) (i : ℕ) (first : Bool) (h : i < length s) where
   body_last e = here_is true e
 
   -- whatever is kept of an atom
-  module _ (f : Atom → List ℕ) (r : Piece) (a : PieceAt (map_got f (atom first b rest)) s i r) (e : anchor_at s i ≡ false) where
-    body_lost : r.end ≡ 0 → body_of first (drop i s) ≡ none
-    body_lost z = here_is false e ∙ ap going (map_none f (atom first b rest) (piece_lost a z))
+  module _ (f : Atom → List ℕ) (e : anchor_at s i ≡ false) where
+    body_lost : map_got f (atom first b rest) ≡ none → body_of first (drop i s) ≡ none
+    body_lost z = here_is false e ∙ ap going (map_none f (atom first b rest) z)
 
-    pub body_more : (r.end ≡ 0 → ⊥) → Step f s i first r.end r.set
-    body_more n =
-        let g = map_some f (atom first b rest) r.set (drop r.end s) (piece_found a n) in
+    pub body_more : (r : Piece) → PieceHere (map_got f (atom first b rest)) s i r → Step f s i first r.end r.set
+    body_more r a =
+        let g = map_some f (atom first b rest) r.set (drop r.end s) a.reads in
         record {
           value = g.value;
           drawing = g.drawing;
@@ -253,14 +253,14 @@ module _ (s : List ℕ) (i : ℕ) (first : Bool) (n : ℕ) (c : Counted s i firs
           let more = body_of false (pick (eqb (peek a.rest) 42) (drop 1 a.rest) a.rest) in
           counted_more (elem (eqb (peek a.rest) 42) a.got) n more ∙ counted_past (n + 1) more (omega arith)
 
-  module _ (h : i < stop) (f : Atom → List ℕ) (r : Piece) (a : PieceAt (map_got f (atom first (get_or s i 0) (drop (i + 1) s))) s i r) where
-    pub count_lost : r.end ≡ 0 → false ≡ is_pattern s
-    count_lost z = sym (ap (counted n) (body_lost s i first (stop_inside s i stop q h) f r a (stop_before s i stop q h) z)) ∙ c.left
+  module _ (h : i < stop) (f : Atom → List ℕ) where
+    pub count_lost : map_got f (atom first (get_or s i 0) (drop (i + 1) s)) ≡ none → false ≡ is_pattern s
+    count_lost z = sym (ap (counted n) (body_lost s i first (stop_inside s i stop q h) f (stop_before s i stop q h) z)) ∙ c.left
 
-    pub count_more : (j : ℕ) → (r.end ≡ 0 → ⊥) → j ≡ behind_of s r.end → Counted s j false (n + 1)
-    count_more j m w =
-        let g = body_more s i first (stop_inside s i stop q h) f r a (stop_before s i stop q h) m in
-        let ahead : i < r.end = a.forward m in
+    pub count_more : (r : Piece) → PieceHere (map_got f (atom first (get_or s i 0) (drop (i + 1) s))) s i r → (j : ℕ) → j ≡ behind_of s r.end → Counted s j false (n + 1)
+    count_more r a j w =
+        let g = body_more s i first (stop_inside s i stop q h) f (stop_before s i stop q h) r a in
+        let ahead : i < r.end = a.forward in
         let l : n ≤ i = c.few in
         subst⁻¹ (λ (k : ℕ). Counted s k false (n + 1)) w
         (record {

@@ -13,7 +13,8 @@ use borrow.Author.Tests.{ne_eqb, eq-eqb, le-leb, lt-leb, not-true, not-false}
 use Rattle.octets.specs.Lists.{pick, peek}
 use Rattle.octets.specs.Option.{◌>>=◌, holds}
 use Rattle.basic.specs.Pattern.{Range}
-use Rattle.basic.specs.Inner.Places.{ItemAt}
+use Rattle.std.specs.Prelude as Std
+use Rattle.basic.specs.Inner.Places.{ItemAt, ItemHere}
 use Rattle.basic.specs.Reading.{Read, read, class_opens, range_opens, range, single, begins_item, item}
 use Rattle.basic.specs.declared.reader.Item.{Item}
 use Rattle.basic.proofs.Places.{peek_in, peek_inside}
@@ -36,21 +37,9 @@ begins_test first b t n u k = ap not k ∙ ap (λ (x : Bool). (not x || first ||
 
 -- ---- answers
 
-abbrev no_item : Item
-no_item = record { end = 0; lo = 0; hi = 0 }
-
-item_none : (whole : Option (Read Range)) (s : List ℕ) (i : ℕ) (r : Item) → whole ≡ none → r ≡ no_item → ItemAt whole s i r
-item_none whole s i r e q =
-    subst⁻¹ (λ (x : Item). ItemAt whole s i x) q (record { reads = e; forward = λ n. absurd (n refl); inside = omega arith })
-
 item_some : (whole : Option (Read Range)) (s : List ℕ) (i e lo hi : ℕ) → whole ≡ read (record { lo = lo; hi = hi }) (drop e s) → i < e → e ≤ length s
-    → ItemAt whole s i (record { end = e; lo = lo; hi = hi })
-item_some whole s i e lo hi q l m =
-    record {
-      reads = q ∙ ap (λ (t : Bool). pick t none (read (record { lo = lo; hi = hi }) (drop e s))) (sym (ne_eqb e 0 (λ z. omega arith)));
-      forward = λ n. l;
-      inside = m;
-    }
+    → ItemHere whole s i (record { end = e; lo = lo; hi = hi })
+item_some whole s i e lo hi q l m = record { reads = q; forward = l; inside = m }
 
 -- ---- a range
 
@@ -84,24 +73,21 @@ module _ (s : List ℕ) (i : ℕ) (h : i + 2 < length s) where
       (ap peek (drop-drop 1 (i + 1) s ∙ ap (λ (n : ℕ). drop n s) one) ∙ sym (peek_in s (i + 2) h))
       (drop-drop 2 (i + 1) s ∙ ap (λ (n : ℕ). drop n s) two)
 
-  pub range_falls : (r : Item) → r ≡ no_item → get_or s (i + 2) 0 < get_or s i 0 → ItemAt (range (get_or s i 0) (drop (i + 1) s)) s i r
+  pub range_falls : get_or s (i + 2) 0 < get_or s i 0 → range (get_or s i 0) (drop (i + 1) s) ≡ none
   unfolding range_by
-  range_falls r q l =
-      item_none (range (get_or s i 0) (drop (i + 1) s)) s i r
-      (range_is ∙ stopped _ _ (ap (λ (t : Bool). t && not (class_opens (get_or s (i + 2) 0) (drop (i + 3) s))) (lt-leb (get_or s i 0) (get_or s (i + 2) 0) l))) q
+  range_falls l =
+      range_is ∙ stopped _ _ (ap (λ (t : Bool). t && not (class_opens (get_or s (i + 2) 0) (drop (i + 3) s))) (lt-leb (get_or s i 0) (get_or s (i + 2) 0) l))
 
   module _ (next : ℕ) (n : next ≡ peek (drop (i + 3) s)) (t : Bool) (k : (u : List ℕ) → next ≡ peek u → t ≡ class_opens (get_or s (i + 2) 0) u) where
     class_is : t ≡ class_opens (get_or s (i + 2) 0) (drop (i + 3) s)
     class_is = k (drop (i + 3) s) n
 
-    pub range_class : (r : Item) → r ≡ no_item → t ≡ true → ItemAt (range (get_or s i 0) (drop (i + 1) s)) s i r
+    pub range_class : t ≡ true → range (get_or s i 0) (drop (i + 1) s) ≡ none
     unfolding range_by
-    range_class r q e =
-        item_none (range (get_or s i 0) (drop (i + 1) s)) s i r
-        (range_is ∙ stopped _ _ (and_no (leb (get_or s i 0) (get_or s (i + 2) 0)) (sym class_is ∙ e))) q
+    range_class e = range_is ∙ stopped _ _ (and_no (leb (get_or s i 0) (get_or s (i + 2) 0)) (sym class_is ∙ e))
 
     pub range_on : get_or s i 0 ≤ get_or s (i + 2) 0 → t ≡ false
-        → ItemAt (range (get_or s i 0) (drop (i + 1) s)) s i (record { end = i + 3; lo = get_or s i 0; hi = get_or s (i + 2) 0 })
+        → ItemHere (range (get_or s i 0) (drop (i + 1) s)) s i (record { end = i + 3; lo = get_or s i 0; hi = get_or s (i + 2) 0 })
     unfolding range_by
     range_on l e =
         item_some (range (get_or s i 0) (drop (i + 1) s)) s i (i + 3) (get_or s i 0) (get_or s (i + 2) 0)
@@ -129,18 +115,18 @@ module _ (s : List ℕ) (i : ℕ) (first : Bool) (h : i < length s) (next : ℕ)
   begins_is : t ≡ (begins_item first b rest && not (class_opens b rest))
   begins_is = k rest n
 
-  pub item_not : (r : Item) → r ≡ no_item → not t ≡ true → ItemAt (item first b rest) s i r
-  item_not r q e = item_none (item first b rest) s i r (stopped _ _ (sym begins_is ∙ not-true t e)) q
+  pub item_not : not t ≡ true → item first b rest ≡ none
+  item_not e = stopped _ _ (sym begins_is ∙ not-true t e)
 
   goes_on : not t ≡ false → item first b rest ≡ pick (range_opens rest) (range b rest) (single b rest)
   goes_on e = passed _ _ (sym begins_is ∙ not-false t e)
 
-  alone : not t ≡ false → range_opens rest ≡ false → ItemAt (item first b rest) s i (record { end = i + 1; lo = b; hi = b })
+  alone : not t ≡ false → range_opens rest ≡ false → ItemHere (item first b rest) s i (record { end = i + 1; lo = b; hi = b })
   alone e q =
       item_some (item first b rest) s i (i + 1) b b (goes_on e ∙ ap (λ (x : Bool). pick x (range b rest) (single b rest)) q)
       (omega arith) (omega arith)
 
-  pub item_alone : not t ≡ false → (next ≡ 45 → ⊥) → ItemAt (item first b rest) s i (record { end = i + 1; lo = b; hi = b })
+  pub item_alone : not t ≡ false → (next ≡ 45 → ⊥) → ItemHere (item first b rest) s i (record { end = i + 1; lo = b; hi = b })
   item_alone e m =
       alone e (ap (λ (x : Bool). x && not (eqb (peek (drop 1 rest)) 93) && not (eqb (peek (drop 1 rest)) 256)) (ne_eqb (peek rest) 45 (λ z. m (n ∙ z))))
 
@@ -154,10 +140,10 @@ module _ (s : List ℕ) (i : ℕ) (first : Bool) (h : i < length s) (next : ℕ)
     opens_not : range_opens rest ≡ not (eqb end 93 || eqb end 256)
     opens_not = opens_is ∙ sym (not_or (eqb end 93) (eqb end 256))
 
-    pub item_last : not t ≡ false → (eqb end 93 || eqb end 256) ≡ true → ItemAt (item first b rest) s i (record { end = i + 1; lo = b; hi = b })
+    pub item_last : not t ≡ false → (eqb end 93 || eqb end 256) ≡ true → ItemHere (item first b rest) s i (record { end = i + 1; lo = b; hi = b })
     item_last e m = alone e (opens_not ∙ ap not m)
 
-    pub item_range : (r : Item) → not t ≡ false → (eqb end 93 || eqb end 256) ≡ false → ItemAt (range b rest) s i r → ItemAt (item first b rest) s i r
+    pub item_range : (r : Std.Option Item) → not t ≡ false → (eqb end 93 || eqb end 256) ≡ false → ItemAt (range b rest) s i r → ItemAt (item first b rest) s i r
     item_range r e m a =
         subst⁻¹ (λ (o : Option (Read Range)). ItemAt o s i r)
         (goes_on e ∙ ap (λ (x : Bool). pick x (range b rest) (single b rest)) (opens_not ∙ ap not m)) a

@@ -26,13 +26,11 @@ pub fn is_pattern(s: &[u8]) -> bool
         if n == 60 {
             return false;
         }
-        let a = atom_at(s, i, first, false);
-        let end = a.end;
-        if end == 0 {
+        let Some(a) = atom_at(s, i, first, false) else {
             return false;
-        }
-        let repeats = star_at(s, end, stop);
-        i = behind(end, repeats);
+        };
+        let repeats = star_at(s, a.end, stop);
+        i = behind(a.end, repeats);
         first = false;
         n += 1;
     }

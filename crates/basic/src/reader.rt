@@ -1,4 +1,4 @@
-// The reader: each function answers where what is left begins, and 0 where the pattern is refused.
+// The reader: each function answers what it read and where what is left begins, or nothing where the pattern is refused.
 ghost use Rattle.std.specs.Prelude.{◌≡◌, true, false, not, ◌&&◌, List, ℕ, ◌+◌, ◌<◌, ◌≤◌, eqb, length, get_or, drop};
 ghost use Rattle.octets.specs.Lists.{text, pick, some_of, peek};
 ghost use Rattle.basic.specs.Pattern.{list};
@@ -37,41 +37,24 @@ pub fn peek_at(s: &[u8], i: usize) -> u16
 fn opens_class(b: u8, next: u16) -> bool
     ensures { (s : List ℕ) → next ≡ peek s → result ≡ class_opens b s }
 {
-    if b == 91 {
+    if b == b'[' {
         return (next == 46) | (next == 61) | (next == 58);
     }
     false
-}
-
-fn no_item() -> Item
-    ensures { result ≡ record { end = 0; lo = 0; hi = 0 } }
-{
-    Item {
-        end: 0,
-        lo: 0,
-        hi: 0,
-    }
-}
-
-fn no_piece() -> Piece
-    ensures { result.end ≡ 0 }
-{
-    let none = [0u64; 4];
-    Piece { end: 0, set: none }
 }
 
 // A byte that may begin an item: "`-` when first or last", "a first `-` may begin a range"; `[.` `[=` `[:` may not.
 fn may_begin(first: bool, b: u8, next: u16) -> bool
     ensures { (s : List ℕ) → next ≡ peek s → result ≡ (begins_item first b s && not (class_opens b s)) }
 {
-    if b == 45 {
+    if b == b'-' {
         return first | (next == 93);
     }
     !opens_class(b, next)
 }
 
 // "a range that falls" is refused; its end is no `[` of a class.
-fn range_at(s: &[u8], i: usize) -> Item
+fn range_at(s: &[u8], i: usize) -> Option<Item>
     requires { i + 2 < length s.now }
     ensures { ItemAt (range (get_or s.now i 0) (drop (i + 1) s.now)) s.now i result }
 {
@@ -79,82 +62,73 @@ fn range_at(s: &[u8], i: usize) -> Item
     let hi = s[i + 2];
     let next = peek_at(s, i + 3);
     if hi < lo {
-        return no_item();
+        return None;
     }
     if opens_class(hi, next) {
-        return no_item();
+        return None;
     }
-    Item { end: i + 3, lo, hi }
+    Some(Item { end: i + 3, lo, hi })
 }
 
 // "any `-` may end one; ranges are read from the left": a `-` is an operator unless it stands straight before `]`.
-fn item_at(s: &[u8], i: usize, first: bool) -> Item
+fn item_at(s: &[u8], i: usize, first: bool) -> Option<Item>
     requires { i < length s.now }
     ensures { ItemAt (item first (get_or s.now i 0) (drop (i + 1) s.now)) s.now i result }
 {
     let b = s[i];
     let next = peek_at(s, i + 1);
     if !may_begin(first, b, next) {
-        return no_item();
+        return None;
     }
     if next != 45 {
-        return Item {
+        return Some(Item {
             end: i + 1,
             lo: b,
             hi: b,
-        };
+        });
     }
     let end = peek_at(s, i + 2);
     if (end == 93) | (end == 256) {
-        return Item {
+        return Some(Item {
             end: i + 1,
             lo: b,
             hi: b,
-        };
+        });
     }
     range_at(s, i)
 }
 
 // The items of a list up to its closing `]`. "`]` is ordinary when first"; "an unclosed list" is refused.
-fn items_at(s: &[u8], from: usize, build: bool) -> Piece
+fn items_at(s: &[u8], from: usize, build: bool) -> Option<Piece>
     ensures { PieceAt (map_got (λ l. drawn build (list false l)) (items_of true (drop from s.now))) s.now from result }
 {
     let mut set = [0u64; 4];
     let mut i = from;
     let mut first = true;
     while i < s.len() {
-        if (s[i] == 93) & !first {
-            return Piece { end: i + 1, set };
+        if (s[i] == b']') & !first {
+            return Some(Piece { end: i + 1, set });
         }
-        let item = item_at(s, i, first);
-        let end = item.end;
-        if end == 0 {
-            return no_piece();
-        }
+        let item = item_at(s, i, first)?;
         let wider = widen(build, set, item.lo, item.hi);
         set = wider;
-        i = end;
+        i = item.end;
         first = false;
     }
-    no_piece()
+    None
 }
 
 // A bracket list from behind its `[` and `^`.
-fn bracket_of(s: &[u8], from: usize, negated: bool, build: bool) -> Piece
+fn bracket_of(s: &[u8], from: usize, negated: bool, build: bool) -> Option<Piece>
     ensures { PieceAt (map_got (λ l. drawn build (list negated l)) (items_of true (drop from s.now))) s.now from result }
 {
-    let p = items_at(s, from, build);
-    let end = p.end;
-    if end == 0 {
-        return no_piece();
-    }
-    let ranges = p.set;
-    let set = closed(build, negated, ranges);
-    Piece { end, set }
+    let p = items_at(s, from, build)?;
+    let set = closed(build, negated, p.set);
+    Some(Piece { end: p.end, set })
 }
 
 // "`^` first"
-fn bracket_at(s: &[u8], i: usize, build: bool) -> Piece
+fn bracket_at(s: &[u8], i: usize, build: bool) -> Option<Piece>
     requires { i ≤ length s.now }
     ensures { PieceAt (map_got (drawn build) (bracket (drop i s.now))) s.now i result }
 {
@@ -169,56 +143,56 @@ fn is_special(c: u16) -> bool
     (c == 46) | (c == 91) | (c == 92) | (c == 42) | (c == 94) | (c == 36)
 }
 
-fn escaped_at(s: &[u8], i: usize, build: bool) -> Piece
+fn escaped_at(s: &[u8], i: usize, build: bool) -> Option<Piece>
     ensures { PieceAt (map_got (drawn build) (escaped (drop i s.now))) s.now i result }
 {
     let c = peek_at(s, i);
     if !is_special(c) {
-        return no_piece();
+        return None;
     }
     let set = lone(build, s[i]);
-    Piece { end: i + 1, set }
+    Some(Piece { end: i + 1, set })
 }
 
 // A list, a pair or a `*`. "`*` first, or right after the leading `^`, is ordinary"; any other that begins an atom is refused.
-fn special_at(s: &[u8], i: usize, first: bool, build: bool) -> Piece
+fn special_at(s: &[u8], i: usize, first: bool, build: bool) -> Option<Piece>
     requires { (i < length s.now) × (get_or s.now i 0 ≡ 46 → ⊥) }
     ensures { PieceAt (map_got (drawn build) (atom first (get_or s.now i 0) (drop (i + 1) s.now))) s.now i result }
 {
     let b = s[i];
-    if b == 91 {
+    if b == b'[' {
         return bracket_at(s, i + 1, build);
     }
-    if b == 92 {
+    if b == b'\\' {
         return escaped_at(s, i + 1, build);
     }
-    if (b == 42) & !first {
-        return no_piece();
+    if (b == b'*') & !first {
+        return None;
     }
     let set = lone(build, b);
-    Piece { end: i + 1, set }
+    Some(Piece { end: i + 1, set })
 }
 
 // A byte that stands for itself wherever it stands.
 pub fn is_plain(b: u8) -> bool
     ensures { result ≡ not (some_of (eqb b) (text ".[\\*")) }
 {
-    !((b == 46) | (b == 91) | (b == 92) | (b == 42))
+    !((b == b'.') | (b == b'[') | (b == b'\\') | (b == b'*'))
 }
 
 // The atom that begins at i: short enough to stand in both loops over atoms, and calls for what is rare.
-pub fn atom_at(s: &[u8], i: usize, first: bool, build: bool) -> Piece
+pub fn atom_at(s: &[u8], i: usize, first: bool, build: bool) -> Option<Piece>
     requires { i < length s.now }
     ensures { PieceAt (map_got (drawn build) (atom first (get_or s.now i 0) (drop (i + 1) s.now))) s.now i result }
 {
     let b = s[i];
     if is_plain(b) {
         let set = lone(build, b);
-        return Piece { end: i + 1, set };
+        return Some(Piece { end: i + 1, set });
     }
-    if b == 46 {
+    if b == b'.' {
         let set = any(build);
-        return Piece { end: i + 1, set };
+        return Some(Piece { end: i + 1, set });
     }
     // Two calls: a function that is called once the compiler moves to its call, and this one would then be too long for the loops.
     if build {
@@ -233,7 +207,7 @@ pub fn star_at(s: &[u8], i: usize, stop: usize) -> bool
     ensures { result ≡ eqb (peek (drop i s.now)) 42 }
 {
     if i < stop {
-        return s[i] == 42;
+        return s[i] == b'*';
     }
     false
 }
@@ -265,7 +239,7 @@ pub fn stop_at(s: &[u8]) -> usize
     ensures { result ≡ stop_of s.now }
 {
     let last = s.len() - 1;
-    if s[last] == 36 {
+    if s[last] == b'$' {
         return last;
     }
     s.len()

@@ -5,7 +5,7 @@ ghost use Rattle.octets.specs.Bytes.{within};
 ghost use Rattle.basic.specs.Inner.Sets.{word, words};
 
 // All bits of a word.
-const ALL: u64 = 18446744073709551615;
+const ALL: u64 = u64::MAX;
 
 // The set of one byte.
 pub(crate) fn only(c: u8) -> [u64; 4]

@@ -6,7 +6,7 @@ use Prim.Native.Nat.{ℕ, suc, ◌+◌, ◌≤◌, ◌<◌, zero-le}
 use native.Mathlib.Nat.{le_trans, le_of_eq}
 use native.Mathlib.Numerals.{add-one}
 use native.Mathlib.Omega.{arith}
-use lib.ListN.{length, get_or, drop, set, drop_of_length-le, length-set}
+use lib.ListN.{length, get_or, drop, set, drop_of_length-le}
 use lib.Seq.{drop-cons}
 use lib.Dec.{eqb, ltb}
 use borrow.Author.Tests.{eqb-true, lt-ltb}
@@ -268,14 +268,6 @@ module _ (raw d e : List ℕ) (gap : Bool) (n i : ℕ) (k : Reducing raw d e gap
         }
 
 module _ (raw d e : List ℕ) (gap : Bool) (n i : ℕ) (k : Reducing raw d e gap n i) where
-  pub place_inside : length raw ≤ length d → i < length raw → n < length e
-  place_inside fit more = omega (arith, written_length k.so_far (omega (arith, k.room, k.inside, fit)), k.room)
-
-  pub next_inside : length raw ≤ length d → i < length raw → gap ≡ true → n + 1 < length (set e n 32)
-  next_inside fit more g =
-      let roomy : n + 1 ≤ i = subst (λ (x : Bool). n + one x ≤ i) g k.room in
-      omega (arith, written_length k.so_far (omega (arith, k.room, k.inside, fit)), length-set e n 32, roomy)
-
   pub reducing_length : length raw ≤ length d → length e ≡ length d
   reducing_length fit = written_length k.so_far (omega (arith, k.room, k.inside, fit))
 

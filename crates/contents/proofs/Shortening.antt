@@ -3,9 +3,11 @@ use mathlib.Core.Bool.{Bool, true, false, ◌&&◌}
 use mathlib.Core.Path.{◌≡◌, refl, sym, ap, ◌∙◌}
 use mathlib.Core.List.{List, [], ◌∷◌}
 use Prim.Native.Nat.{ℕ, zero, suc, ◌+◌, ◌-◌, ◌≤◌, ◌<◌}
-use native.Mathlib.Nat.{zero-add, le_of_suc-le-suc, not-suc-le-zero}
+use native.Mathlib.Nat.{le_of_suc-le-suc, not-suc-le-zero}
 use native.Mathlib.Omega.{arith}
 use lib.ListN.{length, get_or, take, drop}
+use Rattle.std.proofs.Common.{Option, Some, None}
+use Rattle.std.specs.Option.{MatchOption, IfSome, unwrap_or}
 use Rattle.octets.specs.Bytes.{lower, same_any_case}
 use Rattle.octets.specs.Lists.{text, pick}
 use Rattle.cuts.specs.Cutting.{begins}
@@ -88,14 +90,20 @@ and_false true = refl
 and_false false = refl
 
 -- a letter in either case is no name of another length
-pub place_none : (w : List ℕ) → (length w ≡ 1 → ⊥) → 10 ≡ short_place w
+pub place_none : (w : List ℕ) → (length w ≡ 1 → ⊥) → 10 ≤ short_place w
 unfolding short_place
-place_none [] n = refl
+place_none [] n = omega arith
 place_none (b ∷ []) n = absurd (n refl)
-place_none (b ∷ c ∷ w) n = sym (simp and_false)
+place_none (b ∷ c ∷ w) n = simp and_false (omega arith)
 
-pub place_one : (w : List ℕ) (b k : ℕ) → length w ≡ 1 → b ≡ lower (get_or w 0 0) → k ≡ 0 + first (begins (b ∷ [])) (text "imelcfsktv") → k ≡ short_place w
+place_one : (w : List ℕ) (b : ℕ) → length w ≡ 1 → b ≡ lower (get_or w 0 0) → first (begins (b ∷ [])) (text "imelcfsktv") ≡ short_place w
 unfolding short_place first
-place_one [] b k e eb ek = absurd (omega arith)
-place_one (c ∷ []) b k e eb ek = ek ∙ zero-add (first (begins (b ∷ [])) (text "imelcfsktv")) ∙ ap (λ (x : ℕ). first (begins (x ∷ [])) (text "imelcfsktv")) eb
-place_one (c ∷ d ∷ w) b k e eb ek = absurd (omega arith)
+place_one [] b e eb = absurd (omega arith)
+place_one (c ∷ []) b e eb = ap (λ (x : ℕ). first (begins (x ∷ [])) (text "imelcfsktv")) eb
+place_one (c ∷ d ∷ w) b e eb = absurd (omega arith)
+
+-- what the library's `position` finds in the table
+pub place_found : (w : List ℕ) (b : ℕ) (r : Option ℕ) → length w ≡ 1 → b ≡ lower (get_or w 0 0) → IfSome r (λ k. k < 10) → first (begins (b ∷ [])) (text "imelcfsktv") ≡ unwrap_or r 10
+    → MatchOption r (10 ≤ short_place w) (λ k. (k < 10) × (k ≡ short_place w))
+place_found w b None e eb h f = omega (arith, f, place_one w b e eb)
+place_found w b (Some k) e eb h f = (h, sym f ∙ place_one w b e eb)

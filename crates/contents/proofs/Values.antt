@@ -1,5 +1,5 @@
 -- A value's pieces by place, and the names that are never cut.
-use mathlib.Core.Bool.{Bool, true, false, ◌||◌, or-false}
+use mathlib.Core.Bool.{Bool, true, false}
 use mathlib.Core.Path.{◌≡◌, refl, sym, ap, ◌∙◌, subst}
 use mathlib.Core.List.{List, [], ◌∷◌, map}
 use Prim.Native.Nat.{ℕ, suc, ◌+◌, ◌-◌, ◌≤◌, ◌<◌}
@@ -9,8 +9,7 @@ use lib.ListN.{length, get_or, take, drop, drop_of_length-le, length-drop}
 use lib.Seq.{drop-cons, drop-drop, take-take}
 use lib.Dec.{eqb}
 use borrow.Author.Tests.{eq-eqb, ne_eqb, eqb-true}
-use Rattle.octets.specs.Bytes.{same_any_case}
-use Rattle.octets.specs.Lists.{text, pick}
+use Rattle.octets.specs.Lists.{pick}
 use Rattle.cuts.specs.Inner.Parts.{part}
 use Rattle.cuts.specs.Cutting.{first_line}
 use Rattle.cuts.specs.Inner.Searching.{first, span, text_here}
@@ -28,21 +27,6 @@ use Rattle.contents.specs.declared.pieces.Within.{Within}
 use Rattle.contents.specs.declared.pieces.Within.TheVariants.{Text, Quotes, Escape, Angles}
 
 -- ---- names
-
-pub never_any : (name : List ℕ) (a b c d e f : Bool)
-    → a ≡ same_any_case name (text "Authorization") → b ≡ same_any_case name (text "Proxy-Authorization") → c ≡ same_any_case name (text "WWW-Authenticate")
-    → d ≡ same_any_case name (text "Proxy-Authenticate") → e ≡ same_any_case name (text "Date") → f ≡ same_any_case name (text "Subject")
-    → (a || b || c || d || e || f) ≡ never_cut name
-never_any name a b c d e f ea eb ec ed ee ef =
-    flat a b c d e f ∙ (λ i. ea i || (eb i || (ec i || (ed i || (ee i || (ef i || false))))))
-  where
-    flat : (a b c d e f : Bool) → (a || b || c || d || e || f) ≡ (a || (b || (c || (d || (e || (f || false))))))
-    flat true b c d e f = refl
-    flat false true c d e f = refl
-    flat false false true d e f = refl
-    flat false false false true e f = refl
-    flat false false false false true f = refl
-    flat false false false false false f = sym (or-false f)
 
 -- ---- where a byte stands
 

@@ -18,7 +18,7 @@ fn line_stop(b: &[u8], from: usize, k: usize) -> usize
         return k;
     }
     let last = b[k - 1];
-    if last == 13 {
+    if last == b'\r' {
         return k - 1;
     }
     k
@@ -32,19 +32,19 @@ pub fn next_line(b: &[u8], from: usize) -> BodyLine
     if b.len() < from {
         return BodyLine::Done;
     }
-    let k = cuts::place_of(b, from, 10);
+    let k = cuts::place_of(b, from, b'\n');
     let next = k + 1;
     let e = line_stop(b, from, k);
     if e < from + 2 {
-        return BodyLine::Other { next: next };
+        return BodyLine::Other { next };
     }
-    if b[from + 1] != 61 {
-        return BodyLine::Other { next: next };
+    if b[from + 1] != b'=' {
+        return BodyLine::Other { next };
     }
     BodyLine::Typed {
         start: from,
         value: from + 2,
         end: e,
-        next: next,
+        next,
     }
 }

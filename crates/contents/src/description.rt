@@ -9,7 +9,7 @@ use crate::pieces::next_value;
 fn says_description(v: &[u8]) -> bool
     ensures { result ≡ says_description v.now }
 {
-    let k = cuts::place_of(v, 0, 59);
+    let k = cuts::place_of(v, 0, b';');
     let e = cuts::trimmed_end(&v[0..k]);
     let a = cuts::blanks(&v[0..e]);
     octets::same_letters(&v[a..e], b"application/sdp")

@@ -1,19 +1,19 @@
 // Header names: the short ones, and those whose values are never cut.
-ghost use Rattle.std.specs.Prelude.{◌≡◌, ◌≤◌, ◌<◌, get_or};
+ghost use Rattle.std.specs.Prelude.{◌≡◌, ◌≤◌, ◌<◌, get_or, MatchOption};
 ghost use Rattle.contents.specs.Names.{name_as_matched};
 ghost use Rattle.contents.specs.Inner.Steps.{short_place, long_name, long_names, long_starts};
 ghost use Rattle.contents.specs.Values.{never_cut};
 
-// Where a name stands in the table of ten short names, in either case; 10 where it is none of them. A name of more than one byte is told
-// by its length alone.
-pub(crate) fn short_place(written: &[u8]) -> usize
-    ensures { result ≡ short_place written.now }
+// Where a name stands in the table of ten short names, in either case; none where it is none of them. A name of more than one byte is
+// told by its length alone.
+fn short_place(written: &[u8]) -> Option<usize>
+    ensures { MatchOption result (10 ≤ short_place written.now) (λ k. (k < 10) × (k ≡ short_place written.now)) }
 {
     if written.len() != 1 {
-        return 10;
+        return None;
     }
     let letter = octets::lower_of(written[0]);
-    cuts::place_of(b"imelcfsktv", 0, letter)
+    b"imelcfsktv".iter().position(|name| *name == letter)
 }
 
 // The ten long names one after the other, in the table's order. A caller makes them once and lends them to `as_matched`, which can't
@@ -47,11 +47,10 @@ pub fn as_matched<'a>(written: &'a [u8], long: &'a [u8]) -> &'a [u8]
     requires { long.now ≡ long_names }
     ensures { result.now ≡ name_as_matched written.now }
 {
-    let place = short_place(written);
-    if place < 10 {
-        return long_name(place, long);
+    match short_place(written) {
+        Some(place) => long_name(place, long),
+        None => written,
     }
-    written
 }
 
 // "Never cut: .., in any case" (document 01), of a name as it is matched: "The rule on fields never cut uses long names too" (change
@@ -59,11 +58,10 @@ pub fn as_matched<'a>(written: &'a [u8], long: &'a [u8]) -> &'a [u8]
 pub fn never_cut(name: &[u8]) -> bool
     ensures { result ≡ never_cut name.now }
 {
-    let a = octets::same_letters(name, b"Authorization");
-    let b = octets::same_letters(name, b"Proxy-Authorization");
-    let c = octets::same_letters(name, b"WWW-Authenticate");
-    let d = octets::same_letters(name, b"Proxy-Authenticate");
-    let e = octets::same_letters(name, b"Date");
-    let f = octets::same_letters(name, b"Subject");
-    a | b | c | d | e | f
+    octets::same_letters(name, b"Authorization")
+        || octets::same_letters(name, b"Proxy-Authorization")
+        || octets::same_letters(name, b"WWW-Authenticate")
+        || octets::same_letters(name, b"Proxy-Authenticate")
+        || octets::same_letters(name, b"Date")
+        || octets::same_letters(name, b"Subject")
 }

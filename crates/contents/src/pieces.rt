@@ -21,7 +21,7 @@ pub(crate) enum Within {
 fn is_space(b: u8) -> bool
     ensures { result ≡ space b }
 {
-    (b == 32) | (b == 9) | (b == 10) | (b == 13)
+    (b == b' ') | (b == b'\t') | (b == b'\n') | (b == b'\r')
 }
 
 // Writes the value as document 01 reads it to the front of the lent place: no white space at the ends, one SP for each run inside. It answers
@@ -32,23 +32,18 @@ pub fn normalise(raw: &[u8], dst: &mut [u8]) -> usize
 {
     let mut gap = false;
     let mut n: usize = 0;
-    let mut i: usize = 0;
-    while i < raw.len() {
-        let b = raw[i];
-        i += 1;
+    for &b in raw {
         if is_space(b) {
             gap = 0 < n;
-        } else {
-            if gap {
-                dst[n] = 32;
-                dst[n + 1] = b;
-                n += 2;
-                gap = false;
-            } else {
-                dst[n] = b;
-                n += 1;
-            }
+            continue;
         }
+        if gap {
+            dst[n] = b' ';
+            n += 1;
+            gap = false;
+        }
+        dst[n] = b;
+        n += 1;
     }
     n
 }
@@ -58,26 +53,26 @@ fn next_within(w: Within, b: u8) -> Within
 {
     match w {
         Within::Text => {
-            if b == 34 {
+            if b == b'"' {
                 return Within::Quotes;
             }
-            if b == 60 {
+            if b == b'<' {
                 return Within::Angles;
             }
             Within::Text
         }
         Within::Quotes => {
-            if b == 92 {
+            if b == b'\\' {
                 return Within::Escape;
             }
-            if b == 34 {
+            if b == b'"' {
                 return Within::Text;
             }
             Within::Quotes
         }
         Within::Escape => Within::Quotes,
         Within::Angles => {
-            if b == 62 {
+            if b == b'>' {
                 return Within::Text;
             }
             Within::Angles
@@ -90,7 +85,7 @@ fn cuts_here(w: Within, b: u8) -> bool
     ensures { result ≡ cuts (mode_of w) b }
 {
     match w {
-        Within::Text => b == 44,
+        Within::Text => b == b',',
         Within::Quotes => false,
         Within::Escape => false,
         Within::Angles => false,
@@ -103,16 +98,14 @@ fn piece_end(v: &[u8], from: usize) -> usize
     ensures { result ≡ from + span cuts step plain (drop from v.now) }
 {
     let mut w = Within::Text;
-    let mut i = from;
-    while i < v.len() {
+    for i in from..v.len() {
         let b = v[i];
         if cuts_here(w, b) {
             return i;
         }
         w = next_within(w, b);
-        i += 1;
     }
-    i
+    v.len()
 }
 
 // The piece that starts at a place of a reduced value.

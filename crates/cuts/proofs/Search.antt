@@ -1,6 +1,7 @@
 -- Laws of `first`: what a loop that looks at one place after the other keeps, over any test, and what a cut at a mark is.
-use mathlib.Core.Bool.{Bool, true, false, ◌&&◌}
-use mathlib.Core.Option.{Option, none, some}
+use mathlib.Core.Bool.{Bool, true, false, not, ◌&&◌}
+use mathlib.Core.Option.{none, some}
+use mathlib.Core.Option as M
 use mathlib.Core.Path.{◌≡◌, refl, sym, ap, ◌∙◌}
 use mathlib.Core.List.{List, [], ◌∷◌}
 use Prim.Native.Nat.{ℕ, zero, suc, ◌+◌, ◌≤◌, ◌<◌, zero-le, suc-le-suc}
@@ -12,11 +13,16 @@ use lib.ListN.{length, get_or, take, drop, drop_of_length-le, length-drop}
 use lib.Dec.{eqb}
 use lib.Seq.{drop-cons, drop-drop, length-take-le, take_all}
 use borrow.Author.Tests.{eq-eqb, ne_eqb}
+use Rattle.std.proofs.Common.{Option}
+use Rattle.std.specs.List.{AllWithin, HoldsAt}
+use Rattle.std.specs.Option.{MatchOption, unwrap_or}
+use Rattle.std.proofs.lemmas.Iterator.{index_from_first}
+use Rattle.octets.specs.Bytes.{white}
 use Rattle.octets.specs.Lists.{pick}
 use Rattle.octets.specs.Option.{◌>>=◌}
 use Rattle.octets.proofs.Tests.{right, T_of, is_true}
 use Rattle.cuts.specs.Cutting.{Cut, begins, first_cut, before_cut}
-use Rattle.cuts.specs.Inner.Searching.{first}
+use Rattle.cuts.specs.Inner.Searching.{first, text_here}
 
 module _ (p : List ℕ → Bool) where
   pub first_no : (b : ℕ) (s : List ℕ) → p (b ∷ s) ≡ false → first p (b ∷ s) ≡ suc (first p s)
@@ -93,13 +99,35 @@ begins_at a mark (b ∷ s) zero h = refl
 begins_at a mark [] (suc i) h = rw h
 begins_at a mark (b ∷ s) (suc i) h = begins_at a mark s i h ∙ rw suc-add
 
--- a search for one byte
+-- what the library's `position` finds
+first_found : (p : List ℕ → Bool) (Yes No : ℕ → Type 0) → ((x : ℕ) (s : List ℕ) → Yes x → p (x ∷ s) ≡ true) → ((x : ℕ) (s : List ℕ) → No x → p (x ∷ s) ≡ false)
+    → (s : List ℕ) (r : Option ℕ) → MatchOption r (AllWithin No s 0 (length s)) (λ i. (i < length s) × HoldsAt Yes s i × AllWithin No s 0 i) → first p s ≡ unwrap_or r (length s)
+unfolding first
+first_found p Yes No hit miss =
+    index_from_first (first p) Yes No refl (λ x s y. first_yes p x s (hit x s y)) (λ x s n. first_no p x s (miss x s n) ∙ sym (add-one (first p s)))
+
+-- a search for one byte, by the library's word
+pub place_found : (b : ℕ) (s : List ℕ) (r : Option ℕ)
+    → MatchOption r (AllWithin (λ x. x ≡ b → ⊥) s 0 (length s)) (λ i. (i < length s) × HoldsAt (λ x. x ≡ b) s i × AllWithin (λ x. x ≡ b → ⊥) s 0 i)
+    → first (begins (b ∷ [])) s ≡ unwrap_or r (length s)
+place_found b =
+    first_found (begins (b ∷ [])) (λ x. x ≡ b) (λ x. x ≡ b → ⊥)
+    (λ x s e. rw (eq-eqb b x (sym e))) (λ x s n. rw (ne_eqb b x (λ e. n (sym e))))
+
+-- and by a loop over the places
 module _ (s : List ℕ) (b t i : ℕ) (k : Came (begins (b ∷ [])) s t i) (inside : i < length s) where
-  pub place_found : get_or s i 0 ≡ b → i ≡ t
-  place_found h = came_found (begins (b ∷ [])) s t i k inside (rw (drop-cons s i 0 inside, eq-eqb b (get_or s i 0) (sym h)))
+  pub place_here : get_or s i 0 ≡ b → i ≡ t
+  place_here h = came_found (begins (b ∷ [])) s t i k inside (rw (drop-cons s i 0 inside, eq-eqb b (get_or s i 0) (sym h)))
 
   pub place_next : (get_or s i 0 ≡ b → ⊥) → Came (begins (b ∷ [])) s t (i + 1)
   place_next h = came_next (begins (b ∷ [])) s t i k inside (rw (drop-cons s i 0 inside, ne_eqb b (get_or s i 0) (λ e. h (sym e))))
+
+-- a search for a byte that is not white
+pub blanks_found : (s : List ℕ) (r : Option ℕ)
+    → MatchOption r (AllWithin (λ x. white x ≡ true) s 0 (length s)) (λ i. (i < length s) × HoldsAt (λ x. white x ≡ false) s i × AllWithin (λ x. white x ≡ true) s 0 i)
+    → first text_here s ≡ unwrap_or r (length s)
+blanks_found =
+    first_found text_here (λ x. white x ≡ false) (λ x. white x ≡ true) (λ x s e. ap not e) (λ x s e. ap not e)
 
 -- a mark that was found lies inside
 pub begins_long : (mark s : List ℕ) → begins mark s ≡ true → length mark ≤ length s
@@ -121,10 +149,10 @@ module _ (p : List ℕ → Bool) where
 -- ---- a cut at the first mark
 
 module _ (mark : List ℕ) where
-  abbrev cut_here : List ℕ → ℕ → Option Cut
+  abbrev cut_here : List ℕ → ℕ → M.Option Cut
   cut_here s k = some (record { before = take k s; after = drop (k + length mark) s })
 
-  abbrev pushed : ℕ → Option Cut → Option Cut
+  abbrev pushed : ℕ → M.Option Cut → M.Option Cut
   pushed b o = o >>= λ c. some (record { before = b ∷ c.before; after = c.after })
 
   cut_yes : (b : ℕ) (s : List ℕ) → begins mark (b ∷ s) ≡ true → first_cut mark (b ∷ s) ≡ cut_here (b ∷ s) 0

@@ -2,19 +2,22 @@
 use mathlib.Core.Bool.{Bool, true, false, not, ◌&&◌, and-false}
 use mathlib.Core.Path.{◌≡◌, refl, sym, ap, ◌∙◌}
 use mathlib.Core.List.{List, [], ◌∷◌}
-use Prim.Native.Nat.{ℕ, zero, suc, ◌-◌, ◌≤◌, ◌<◌, ◌+◌}
+use Prim.Native.Nat.{ℕ, zero, suc, ◌-◌, ◌≤◌, ◌<◌, ◌+◌, zero-le}
 use native.Mathlib.Nat.{not-suc-le-zero, le_of_suc-le-suc}
 use native.Mathlib.Omega.{arith}
 use lib.ListN.{length, get_or, take, drop}
-use lib.Seq.{length-take-le, take-length, drop-cons}
-use borrow.Author.Tests.{not-true, not-false}
+use lib.Seq.{length-take-le, take_all}
+use Rattle.std.proofs.Common.{Option, Some, None, reverse}
+use Rattle.std.specs.List.{AllWithin, HoldsAt}
+use Rattle.std.specs.Option.{MatchOption}
+use Rattle.std.proofs.lemmas.List.{get_or-reverse, length-reverse}
 use Rattle.octets.specs.Bytes.{white}
 use Rattle.octets.specs.Lists.{pick, empty}
 use Rattle.cuts.specs.Trimming.{trim_right, trim_left, trim}
 use Rattle.cuts.specs.Inner.Parts.{part}
 use Rattle.cuts.specs.Inner.Searching.{first, text_here}
 use Rattle.cuts.proofs.Parts.{front_by, front_le, drop_take}
-use Rattle.cuts.proofs.Search.{Came, came_next, came_found, first_yes, first_no}
+use Rattle.cuts.proofs.Search.{first_yes, first_no}
 
 -- ---- the right end
 
@@ -44,39 +47,36 @@ trim_front (b ∷ s) = front_by b s (trim_right s) (white b && empty (trim_right
 pub trim_le : (l : List ℕ) → length (trim_right l) ≤ length l
 trim_le l = front_le (trim_right l) l (trim_front l)
 
--- the walk back has come to e
-pub record Back (t : List ℕ) (e : ℕ) : Type 0 where
-  pub inside : e ≤ length t
-  pub same : trim_right t ≡ trim_right (take e t)
+-- all from n on are white
+back_to : (t : List ℕ) (n k : ℕ) → n + k ≡ length t → ((j : ℕ) → n ≤ j → j < length t → white (get_or t j 0) ≡ true) → trim_right t ≡ trim_right (take n t)
+back_to t n zero e h = ap trim_right (sym (take_all n t (omega (arith, e))))
+back_to t n (suc k) e h = back_to t (suc n) k (omega (arith, e)) (λ j l m. h j (omega arith) m) ∙ trim_white t n (omega (arith, e)) (h n (omega arith) (omega (arith, e)))
 
-pub back_start : (t : List ℕ) → Back t (length t)
-back_start t = record { inside = omega arith; same = ap trim_right (sym (take-length t)) }
+-- the byte at a place, as it is found from the end
+from_end : (t : List ℕ) (j : ℕ) → j < length t → get_or (reverse t) (length t - 1 - j) 0 ≡ get_or t j 0
+from_end t j l =
+    let back : length t - 1 - (length t - 1 - j) ≡ j = omega arith in
+    get_or-reverse t (length t - 1 - j) 0 (omega arith) ∙ ap (λ (i : ℕ). get_or t i 0) back
 
-module _ (t : List ℕ) (e : ℕ) (k : Back t e) (more : 0 < e) (r : Bool) (er : r ≡ white (get_or t (e - 1) 0)) where
-  last : e ≡ suc (e - 1)
-  last = omega (arith, more)
+is_white_at : (t : List ℕ) (k j : ℕ) → AllWithin (λ x. white x ≡ true) (reverse t) 0 k → j < length t → length t - 1 - j < k → white (get_or t j 0) ≡ true
+is_white_at t k j h l m = sym (ap white (from_end t j l)) ∙ h (length t - 1 - j) 0 zero-le m
 
-  in_t : e - 1 < length t
-  in_t = omega (arith, k.inside, more)
-
-  pub back_next : not r ≡ false → Back t (e - 1)
-  back_next n = record {
-    inside = omega (arith, k.inside);
-    same = k.same ∙ ap (λ (j : ℕ). trim_right (take j t)) last ∙ trim_white t (e - 1) in_t (sym er ∙ not-false r n);
-  }
-
-  pub back_found : not r ≡ true → e ≡ length (trim_right t)
-  back_found n =
-      let all : trim_right t ≡ take e t =
-      k.same ∙ ap (λ (j : ℕ). trim_right (take j t)) last ∙ trim_text t (e - 1) in_t (sym er ∙ not-true r n) ∙ ap (λ (j : ℕ). take j t) (sym last)
-      in
-      sym (ap length all ∙ length-take-le e t k.inside)
-
-pub back_end : (t : List ℕ) (e : ℕ) → Back t e → e ≤ 0 → e ≡ length (trim_right t)
+-- what the library's `position` finds from the end
+pub back_found : (t : List ℕ) (r : Option ℕ)
+    → MatchOption r (AllWithin (λ x. white x ≡ true) (reverse t) 0 (length (reverse t))) (λ i. (i < length (reverse t)) × HoldsAt (λ x. white x ≡ false) (reverse t) i × AllWithin (λ x. white x ≡ true) (reverse t) 0 i)
+    → MatchOption r (0 ≡ length (trim_right t)) (λ k. (k ≤ length t) × (length t - k ≡ length (trim_right t)))
 unfolding trim_right
-back_end t e k h =
-    let none_left : e ≡ 0 = omega arith in
-    none_left ∙ sym (ap length (k.same ∙ ap (λ (j : ℕ). trim_right (take j t)) none_left))
+back_found t None h = sym (ap length (back_to t 0 (length t) (omega arith) (λ j l m. is_white_at t (length (reverse t)) j h m (omega (arith, length-reverse t)))))
+back_found t (Some k) h =
+    let inside : k < length t = omega (arith, h.0, length-reverse t) in
+    let n : ℕ = length t - 1 - k in
+    let at : n < length t = omega arith in
+    let here : white (get_or t n 0) ≡ false = sym (ap white (get_or-reverse t k 0 inside)) ∙ h.1 0 in
+    let all : trim_right t ≡ take (suc n) t =
+    back_to t (suc n) (length t - suc n) (omega arith) (λ j l m. is_white_at t k j h.2 m (omega arith)) ∙ trim_text t n at here
+    in
+    let long : length t - k ≡ suc n = omega arith in
+    (omega arith, long ∙ sym (ap length all ∙ length-take-le (suc n) t at))
 
 -- ---- the left end
 
@@ -96,13 +96,3 @@ pub trim_part : (t : List ℕ) (e a : ℕ) → e ≡ length (trim_right t) → a
 trim_part t e a ee ea =
     let front : trim_right t ≡ take e t = trim_front t ∙ ap (λ (j : ℕ). take j t) (sym ee) in
     ap trim_left front ∙ trim_left_at (take e t) ∙ ap (λ (j : ℕ). drop j (take e t)) (sym ea) ∙ drop_take a e t
-
-module _ (t : List ℕ) (p i : ℕ) (k : Came text_here t p i) (inside : i < length t) (r : Bool) (er : r ≡ white (get_or t i 0)) where
-  here_is : text_here (drop i t) ≡ not r
-  here_is = rw (drop-cons t i 0 inside, er)
-
-  pub blanks_found : not r ≡ true → i ≡ p
-  blanks_found n = came_found text_here t p i k inside (here_is ∙ n)
-
-  pub blanks_next : not r ≡ false → Came text_here t p (i + 1)
-  blanks_next n = came_next text_here t p i k inside (here_is ∙ n)

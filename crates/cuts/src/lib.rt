@@ -12,50 +12,35 @@ pub fn place_of(s: &[u8], from: usize, b: u8) -> usize
     requires { from ≤ length s.now }
     ensures { result ≡ from + first (begins (b ∷ [])) (drop from s.now) }
 {
-    let mut i = from;
-    while i < s.len() {
-        let x = s[i];
-        if x == b {
+    // By the index alone: `position` counts from `from`, and with its count beside the index the loop has a step more.
+    for i in from..s.len() {
+        if s[i] == b {
             return i;
         }
-        i += 1;
     }
-    i
+    s.len()
 }
 
 // SP or HTAB.
 pub fn is_white(b: u8) -> bool
     ensures { result ≡ white b }
 {
-    (b == 32) | (b == 9)
+    (b == b' ') | (b == b'\t')
 }
 
 // How many bytes are left of t without SP and HTAB at its right end.
 pub fn trimmed_end(t: &[u8]) -> usize
     ensures { result ≡ length (trim_right t.now) }
 {
-    let mut e = t.len();
-    while 0 < e {
-        let b = t[e - 1];
-        if !is_white(b) {
-            return e;
-        }
-        e -= 1;
+    match t.iter().rev().position(|b| !is_white(*b)) {
+        Some(k) => t.len() - k,
+        None => 0,
     }
-    e
 }
 
 // How many SP and HTAB stand at the left end.
 pub fn blanks(t: &[u8]) -> usize
     ensures { result ≡ first text_here t.now }
 {
-    let mut i: usize = 0;
-    while i < t.len() {
-        let b = t[i];
-        if !is_white(b) {
-            return i;
-        }
-        i += 1;
-    }
-    i
+    t.iter().position(|b| !is_white(*b)).unwrap_or(t.len())
 }

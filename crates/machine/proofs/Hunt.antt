@@ -10,6 +10,7 @@ use lib.Dec.{T, eqb, ltb}
 use lib.ListN.{length, get_or, drop}
 use lib.Seq.{drop-length}
 use borrow.Author.Tests.{ltb-true, ltb-false, lt-ltb, eq-eqb, ne_eqb, eqb-true, not-true, not-false}
+use Rattle.std.proofs.Common.{Some}
 use Rattle.octets.specs.Bits.{bit}
 use Rattle.octets.specs.Inner.Masks.{Below}
 use Rattle.octets.specs.Lists.{empty}
@@ -22,15 +23,17 @@ use Rattle.machine.proofs.Scan.{Scan, dead, met_has, has_met, scan_below, scan_m
 
 -- ---- a mask with one position
 
-pub only_none : (mask : ℕ) → Only mask 60
-only_none mask h = absurd (omega arith)
-
-pub only_one : (mask p : ℕ) → mask < 2 ^ 64 → (mask ≡ 0 → ⊥) → bit_and mask (mask - 1) ≡ 0 → p ≡ count_trailing_zeros 64 mask → Only mask p
-only_one mask p h n z e l k t =
-    let set : bit mask p ≡ true = ap (bit mask) e ∙ lowest_set 64 mask h n in
+lowest_alone : (mask p : ℕ) → mask < 2 ^ 64 → (mask ≡ 0 → ⊥) → bit_and mask (mask - 1) ≡ 0 → p ≡ count_trailing_zeros 64 mask → bit mask p ≡ true
+    → (k : ℕ) → T (bit mask k) → k ≡ p
+lowest_alone mask p h n z e set k t =
     let rest : (bit mask k && not (eqb k p)) ≡ false =
     sym (bit_drop mask p k set) ∙ ap (λ (m : ℕ). bit m k) (sym (lowest_drop 64 mask p h n e) ∙ z) ∙ bit_zero k in
     eqb-true k p (not-false (eqb k p) (ap (λ (a : Bool). a && not (eqb k p)) (sym (is_true (bit mask k) t)) ∙ rest))
+
+pub only_one : (mask p : ℕ) → mask < 2 ^ 64 → (mask ≡ 0 → ⊥) → Below 60 mask → bit_and mask (mask - 1) ≡ 0 → p ≡ count_trailing_zeros 64 mask → Only mask (Some p)
+only_one mask p h n b z e =
+    let set : bit mask p ≡ true = ap (bit mask) e ∙ lowest_set 64 mask h n in
+    (bit_inside 60 mask p b (T_of set), lowest_alone mask p h n z e set)
 
 -- ---- the way down to a byte that a position meets
 
@@ -57,6 +60,9 @@ module _ (set text : List ℕ) (from : ℕ) where
 
 pub start_below : (h : Shape) (before : List ℕ) → Closed h before → Below 60 h.start
 start_below h before c = below_wider h.size 60 h.start c.few (c.starts true)
+
+pub stops_below : (h : Shape) (before : List ℕ) → Closed h before → Below 60 h.stops
+stops_below h before c = below_wider h.size 60 h.stops c.few (c.lasts false)
 
 pub not_shut : (h : Shape) (sets : List (List ℕ)) (b : ℕ) → false ≡ true → Shut h sets b
 not_shut h sets b e = absurd (true≢false (sym e))
@@ -97,8 +103,8 @@ module _ (h : Shape) (sets : List (List ℕ)) (text : List ℕ) where
         unmet = λ k a b q t. absurd (not_T_of (ap (λ (x : ℕ). bit x q) e ∙ bit_zero q) t);
       }
 
-      pub pass_door : (door r : ℕ) → Only h.stops door → door < 60 → LastMet (get_or sets door []) text (i - 1) r → Passed h sets text next i (r + 1)
-      pass_door door r one d w =
+      pub pass_door : (door r : ℕ) → Only h.stops (Some door) → LastMet (get_or sets door []) text (i - 1) r → Passed h sets text next i (r + 1)
+      pass_door door r one w =
           let low : r ≤ i - 1 = w.within in
           record {
             above = omega arith;
@@ -106,7 +112,7 @@ module _ (h : Shape) (sets : List (List ℕ)) (text : List ℕ) where
             not_live = λ l. z;
             not_empty = λ l. m;
             not_last = λ l. omega (arith, n);
-            unmet = unmet door (r + 1) i (one d) (λ j a b. w.none j (omega arith) (omega arith));
+            unmet = unmet door (r + 1) i one.1 (λ j a b. w.none j (omega arith) (omega arith));
           }
 
 -- ---- the scan
@@ -343,15 +349,15 @@ module _ (h : Shape) (sets : List (List ℕ)) (before : List ℕ) where
               (λ j a b q t. absurd (not_T_of (ap (λ (m : ℕ). bit m q) (or_none_right next h.stops e) ∙ bit_zero q) t)))
 
           -- no position may stand before a live one, and the one that may end a part meets no byte above r
-          pub hunt_skip : next ≡ 0 → (door r : ℕ) → Only h.stops door → door < 60 → LastMet (get_or sets door []) text (i - 1) r → Hunt h sets before text (bit_or next h.stops) r
-          hunt_skip e door r one d m =
+          pub hunt_skip : next ≡ 0 → (door r : ℕ) → Only h.stops (Some door) → LastMet (get_or sets door []) text (i - 1) r → Hunt h sets before text (bit_or next h.stops) r
+          hunt_skip e door r one m =
               let w : r ≤ i - 1 = m.within in
               let l : i < length text = s.inside in
               let low : r + 1 + (i - (r + 1)) ≡ i = omega arith in
               record {
                 next = next;
                 inside = omega arith;
-                scan = subst⁻¹ (λ (n : ℕ). Scan h sets before text (r + 1) n (length text + 1)) e (quiet (length text + 1) i (r + 1) (i - (r + 1)) low l (λ j a b. bare_below j zero-le b) (subst (λ (n : ℕ). Scan h sets before text i n (length text + 1)) e scan_here) (unmet h sets text door (r + 1) i (one d) (λ j a b. m.none j (omega arith) (omega arith))));
+                scan = subst⁻¹ (λ (n : ℕ). Scan h sets before text (r + 1) n (length text + 1)) e (quiet (length text + 1) i (r + 1) (i - (r + 1)) low l (λ j a b. bare_below j zero-le b) (subst (λ (n : ℕ). Scan h sets before text i n (length text + 1)) e scan_here) (unmet h sets text door (r + 1) i one.1 (λ j a b. m.none j (omega arith) (omega arith))));
                 known = ap (bit_or next) (sym (ap (last_mask h) (ne_eqb (r + 1) (length text) (λ q. omega arith))));
                 bare = s.bare;
               }

@@ -50,10 +50,10 @@ pub fn step(sets: &[[u64; 4]; 60], before: &[u64; 60], candidates: u64, b: u8) -
     let mut next: u64 = 0;
     while left != 0 {
         let p = u64::trailing_zeros(left) as usize;
-        left = left & (left - 1);
+        left &= left - 1;
         if has(sets, p, b) {
-            live = live | 1 << p;
-            next = next | before[p];
+            live |= 1 << p;
+            next |= before[p];
         }
     }
     Front { live, next }
@@ -70,109 +70,100 @@ fn is_met(sets: &[[u64; 4]; 60], candidates: u64, b: u8) -> bool
         if has(sets, p, b) {
             return true;
         }
-        left = left & (left - 1);
+        left &= left - 1;
     }
     false
 }
 
-pub fn last_of(h: Shape, end: bool) -> u64
-    ensures { result ≡ last_mask h end }
-{
-    if end {
-        return h.ends;
+impl Shape {
+    // The positions that may end a part, at the text's end or elsewhere.
+    pub fn last_of(self, end: bool) -> u64
+        ensures { result ≡ last_mask self end }
+    {
+        if end { self.ends } else { self.stops }
     }
-    h.stops
-}
 
-pub fn first_of(h: Shape, start: bool) -> u64
-    ensures { result ≡ first_mask h start }
-{
-    if start {
-        return h.start;
+    // The positions that may begin one, at the text's start or elsewhere.
+    pub fn first_of(self, start: bool) -> u64
+        ensures { result ≡ first_mask self start }
+    {
+        if start { self.start } else { self.inner }
     }
-    h.inner
-}
 
-// Whether the empty part fits.
-fn empty_fits(h: Shape, start: bool, end: bool) -> bool
-    ensures { result ≡ null_at h start end }
-{
-    if start {
-        if end {
-            return h.whole;
+    // Whether the empty part fits.
+    fn empty_fits(self, start: bool, end: bool) -> bool
+        ensures { result ≡ null_at self start end }
+    {
+        match (start, end) {
+            (true, true) => self.whole,
+            (true, false) => self.head,
+            (false, true) => self.tail,
+            (false, false) => self.middle,
         }
-        return h.head;
     }
-    if end {
-        return h.tail;
+
+    // Whether a part begins here.
+    fn begins(self, start: bool, end: bool, live: u64) -> bool
+        ensures { result ≡ (null_at self start end || not (eqb (bit_and (first_mask self start) live) 0)) }
+    {
+        self.empty_fits(start, end) || self.first_of(start) & live != 0
     }
-    h.middle
+
+    // The text's end, where the empty part fits there, or one above it.
+    fn end_place(self, n: usize) -> usize
+        requires { n < 9223372036854775808 }
+        ensures { result ≡ pick (null_at self (eqb n 0) true || not (eqb (bit_and (first_mask self (eqb n 0)) 0) 0)) n (n + 1) }
+    {
+        if self.begins(n == 0, true, 0) {
+            n
+        } else {
+            n + 1
+        }
+    }
+
+    // ---- what need not be looked at
+
+    // Whether the empty part fits somewhere in a text of n bytes that is not empty.
+    fn empty_somewhere(self, n: usize) -> bool
+        ensures { result ≡ null_somewhere self n }
+    {
+        self.head | self.tail | (self.middle & (1 < n))
+    }
+
+    // Whether a text that begins with the byte b has no part but an empty one: another could begin at the text's start alone, and b is
+    // met by no position that may begin it.
+    fn shut(self, sets: &[[u64; 4]; 60], b: u8) -> bool
+        requires { Below 60 self.start }
+        ensures { result ≡ true → Shut self sets.now b }
+    {
+        if self.inner != 0 {
+            return false;
+        }
+        !is_met(sets, self.start, b)
+    }
 }
 
-// Whether a part begins here.
-fn begins(h: Shape, start: bool, end: bool, live: u64) -> bool
-    ensures { result ≡ (null_at h start end || not (eqb (bit_and (first_mask h start) live) 0)) }
-{
-    if empty_fits(h, start, end) {
-        return true;
-    }
-    first_of(h, start) & live != 0
-}
-
-// The text's end, where the empty part fits there, or one above it.
-fn end_place(h: Shape, n: usize) -> usize
-    requires { n < 9223372036854775808 }
-    ensures { result ≡ pick (null_at h (eqb n 0) true || not (eqb (bit_and (first_mask h (eqb n 0)) 0) 0)) n (n + 1) }
-{
-    if begins(h, n == 0, true, 0) {
-        return n;
-    }
-    n + 1
-}
-
-// ---- what need not be looked at
-
-// Whether the empty part fits somewhere in a text of n bytes that is not empty.
-fn empty_somewhere(h: Shape, n: usize) -> bool
-    ensures { result ≡ null_somewhere h n }
-{
-    h.head | h.tail | (h.middle & (1 < n))
-}
-
-// Whether a text that begins with the byte b has no part but an empty one: another could begin at the text's start alone, and b is met
-// by no position that may begin it.
-fn shut(h: Shape, sets: &[[u64; 4]; 60], b: u8) -> bool
-    requires { Below 60 h.start }
-    ensures { result ≡ true → Shut h sets.now b }
-{
-    if h.inner != 0 {
-        return false;
-    }
-    !is_met(sets, h.start, b)
-}
-
-// The only position of a mask that has one; 60 if it has several.
-fn only(mask: u64) -> usize
-    requires { mask ≡ 0 → ⊥ }
+// The only position of a mask that has one; none if it has several.
+fn only(mask: u64) -> Option<usize>
+    requires { (mask ≡ 0 → ⊥) × Below 60 mask }
     ensures { Only mask result }
 {
     if mask & (mask - 1) != 0 {
-        return 60;
+        return None;
     }
-    u64::trailing_zeros(mask) as usize
+    Some(u64::trailing_zeros(mask) as usize)
 }
 
-// The last place up to a place, and above 0, where position p meets the byte; 0 if there is none.
+// The last place up to a place, and above 0, where position p meets the byte; otherwise the text's first place, which a scan looks at in
+// any case.
 fn last_met(sets: &[[u64; 4]; 60], p: usize, text: &[u8], from: usize) -> usize
     requires { (p < 60) × (from < length text.now) }
     ensures { LastMet (get_or sets.now p []) text.now from result }
 {
-    let mut i = from;
-    while 0 < i {
+    for i in (1..=from).rev() {
         if has(sets, p, text[i]) {
             return i;
         }
-        i -= 1;
     }
     0
 }
@@ -180,7 +171,7 @@ fn last_met(sets: &[[u64; 4]; 60], p: usize, text: &[u8], from: usize) -> usize
 // Where the scan goes on, from the place i: the bytes between are left out, where nothing is live, no empty part fits and no position
 // that may end a part meets a byte.
 fn passed(h: Shape, sets: &[[u64; 4]; 60], text: &[u8], next: u64, i: usize) -> usize
-    requires { (0 < i) × (i ≤ length text.now) }
+    requires { (0 < i) × (i ≤ length text.now) × Below 60 h.stops }
     ensures { Passed h sets.now text.now next i result }
 {
     if next != 0 {
@@ -195,11 +186,10 @@ fn passed(h: Shape, sets: &[[u64; 4]; 60], text: &[u8], next: u64, i: usize) -> 
     if h.stops == 0 {
         return 1;
     }
-    let door = only(h.stops);
-    if door < 60 {
-        return last_met(sets, door, text, i - 1) + 1;
+    match only(h.stops) {
+        Some(door) => last_met(sets, door, text, i - 1) + 1,
+        None => i,
     }
-    i
 }
 
 // The smallest place at which a part of the text fits, or one above its length: a scan from the end, so that what is live before
@@ -209,16 +199,16 @@ fn smallest(h: Shape, sets: &[[u64; 4]; 60], before: &[u64; 60], text: &[u8]) ->
     ensures { Leftmost (machine_of h sets.now before.now) text.now result }
 {
     let n = text.len();
-    let mut best = end_place(h, n);
+    let mut best = h.end_place(n);
     let mut next: u64 = 0;
     let mut i = n;
     while 0 < i {
         let top = passed(h, sets, text, next, i);
-        let stop = last_of(h, top == n);
+        let stop = h.last_of(top == n);
         i = top - 1;
         let f = step(sets, before, next | stop, text[i]);
         next = f.next;
-        if begins(h, i == 0, false, f.live) {
+        if h.begins(i == 0, false, f.live) {
             best = i;
         }
     }
@@ -234,10 +224,10 @@ fn shut_out(h: Shape, sets: &[[u64; 4]; 60], before: &[u64; 60], text: &[u8]) ->
     if n == 0 {
         return false;
     }
-    if empty_somewhere(h, n) {
+    if h.empty_somewhere(n) {
         return false;
     }
-    shut(h, sets, text[0])
+    h.shut(sets, text[0])
 }
 
 // The smallest place at which a part of the text fits, or one above its length. An empty part may fit at the start, and the first byte
@@ -259,7 +249,13 @@ pub fn leftmost(h: Shape, sets: &[[u64; 4]; 60], before: &[u64; 60], text: &[u8]
 // Whether some part of a text that is not empty fits, where no empty one does: the same scan, which ends at the first place that it
 // finds, or where nothing can be live any more. Where no position may stand before a live one, and one alone may end a part, the door,
 // it goes on at the next byte that this one meets.
-fn scan_down(h: Shape, sets: &[[u64; 4]; 60], before: &[u64; 60], text: &[u8], door: usize) -> bool
+fn scan_down(
+    h: Shape,
+    sets: &[[u64; 4]; 60],
+    before: &[u64; 60],
+    text: &[u8],
+    door: Option<usize>,
+) -> bool
     requires { Closed h before.now × (length text.now ≡ 0 → ⊥) × (null_somewhere h (length text.now) ≡ false) × Only h.stops door }
     ensures { Found (machine_of h sets.now before.now) text.now result }
 {
@@ -276,8 +272,8 @@ fn scan_down(h: Shape, sets: &[[u64; 4]; 60], before: &[u64; 60], text: &[u8], d
         }
         i -= 1;
         if f.next == 0 {
-            if door < 60 {
-                i = last_met(sets, door, text, i);
+            if let Some(p) = door {
+                i = last_met(sets, p, text, i);
             }
         }
     }
@@ -293,15 +289,15 @@ pub fn found(h: Shape, sets: &[[u64; 4]; 60], before: &[u64; 60], text: &[u8]) -
     if n == 0 {
         return h.whole;
     }
-    if empty_somewhere(h, n) {
+    if h.empty_somewhere(n) {
         return true;
     }
-    if shut(h, sets, text[0]) {
+    if h.shut(sets, text[0]) {
         return false;
     }
     // Two calls: the compiler makes two scans of them, and the one for a part that ends with the text has no door to try.
     if h.stops == 0 {
-        return scan_down(h, sets, before, text, 60);
+        return scan_down(h, sets, before, text, None);
     }
     scan_down(h, sets, before, text, only(h.stops))
 }

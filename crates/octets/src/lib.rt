@@ -34,66 +34,33 @@ pub fn class_in(table: &[u8; 256], b: u8) -> u8
     requires { Classes table.now }
     ensures { result ≡ class_of b }
 {
-    table[b as usize]
+    table[usize::from(b)]
 }
 
 // The byte at i, or 0 past the end: it spares its callers the length.
 pub fn byte_at(s: &[u8], i: usize) -> u8
     ensures { result ≡ get_or s.now i 0 }
 {
-    if i < s.len() {
-        return s[i];
-    }
-    0
+    s.get(i).copied().unwrap_or(0)
 }
 
 pub fn lower_of(b: u8) -> u8
     ensures { result ≡ lower b }
 {
-    if b < 65 {
-        return b;
-    }
-    if 90 < b {
-        return b;
-    }
-    b + 32
+    b.to_ascii_lowercase()
 }
 
 pub fn same_bytes(a: &[u8], b: &[u8]) -> bool
     ensures { result ≡ same a.now b.now }
 {
-    if a.len() != b.len() {
-        return false;
-    }
-    let mut i: usize = 0;
-    while i < a.len() {
-        let x = a[i];
-        let y = b[i];
-        i += 1;
-        if x != y {
-            return false;
-        }
-    }
-    true
+    a == b
 }
 
 // "in any case" (document 01): never-cut names, `SIP/2.0`.
 pub fn same_letters(a: &[u8], b: &[u8]) -> bool
     ensures { result ≡ same_any_case a.now b.now }
 {
-    if a.len() != b.len() {
-        return false;
-    }
-    let mut i: usize = 0;
-    while i < a.len() {
-        let x = lower_of(a[i]);
-        let y = lower_of(b[i]);
-        i += 1;
-        if x != y {
-            return false;
-        }
-    }
-    true
+    a.eq_ignore_ascii_case(b)
 }
 
 // One or more token bytes: a method.
@@ -101,16 +68,5 @@ pub fn is_token(table: &[u8; 256], s: &[u8]) -> bool
     requires { Classes table.now }
     ensures { result ≡ token s.now }
 {
-    if s.len() == 0 {
-        return false;
-    }
-    let mut i: usize = 0;
-    while i < s.len() {
-        let k = class_in(table, s[i]);
-        i += 1;
-        if k != 1 {
-            return false;
-        }
-    }
-    true
+    !s.is_empty() && s.iter().all(|b| class_in(table, *b) == 1)
 }

@@ -5,13 +5,13 @@ ghost use Rattle.octets.specs.Lists.{pick};
 pub fn from_byte(b: u8) -> usize
     ensures { (result ≡ b) × (result < 256) }
 {
-    b as usize
+    usize::from(b)
 }
 
 pub fn from_word(w: u16) -> usize
     ensures { result ≡ w }
 {
-    w as usize
+    usize::from(w)
 }
 
 pub fn from_long(n: u32) -> usize
@@ -38,5 +38,5 @@ pub fn to_long(n: usize) -> u32
 pub fn one_if(b: bool) -> u32
     ensures { (result ≡ pick b 1 0) × (result ≤ 1) }
 {
-    if b { 1 } else { 0 }
+    u32::from(b)
 }

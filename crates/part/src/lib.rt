@@ -6,7 +6,7 @@ ghost use Rattle.octets.specs.Inner.Masks.{Below};
 ghost use Rattle.machine.specs.Inner.Machine.{Closed, machine_of};
 ghost use Rattle.part.specs.Inner.Part.{Added, Turned, Longest};
 
-use machine::{Shape, first_of, last_of, step};
+use machine::{Shape, step};
 
 // Adds the bit q to the masks of these positions.
 fn add_to(masks: &mut [u64; 60], positions: u64, q: usize)
@@ -16,8 +16,8 @@ fn add_to(masks: &mut [u64; 60], positions: u64, q: usize)
     let mut left = positions;
     while left != 0 {
         let p = u64::trailing_zeros(left) as usize;
-        left = left & (left - 1);
-        masks[p] = masks[p] | 1 << q;
+        left &= left - 1;
+        masks[p] |= 1 << q;
     }
 }
 
@@ -27,11 +27,8 @@ fn turn(h: Shape, before: &[u64; 60], after: &mut [u64; 60])
     requires after_value { after.old ≡ replicate 60 0 }
     ensures { Turned h.size before.now after.new }
 {
-    let size = h.size;
-    let mut q: usize = 0;
-    while q < size {
+    for q in 0..h.size {
         add_to(after, before[q], q);
-        q += 1;
     }
 }
 
@@ -51,17 +48,15 @@ pub fn longest(
     let mut after = [0u64; 60];
     turn(h, before, &mut after);
     let mut best: usize = 0;
-    let mut candidates = first_of(h, start == 0);
-    let mut i = start;
-    while i < n {
+    let mut candidates = h.first_of(start == 0);
+    for i in start..n {
         if candidates == 0 {
             return best;
         }
         let f = step(sets, &after, candidates, text[i]);
-        i += 1;
         candidates = f.next;
-        if last_of(h, i == n) & f.live != 0 {
-            best = i - start;
+        if h.last_of(i + 1 == n) & f.live != 0 {
+            best = i + 1 - start;
         }
     }
     best

@@ -18,7 +18,7 @@ use Rattle.machine.specs.declared.Shape.{Shape}
 use Rattle.basic.specs.Reading.{atom, elem, Body, read_pattern}
 use Rattle.basic.specs.Inner.Judged.{was_read, is_pattern}
 use Rattle.basic.specs.Pattern.{Atom, Elem}
-use Rattle.basic.specs.Inner.Places.{map_got, body_of, start_of, stop_of, PieceAt}
+use Rattle.basic.specs.Inner.Places.{map_got, body_of, start_of, stop_of, PieceHere}
 use Rattle.basic.specs.declared.reader.Piece.{Piece}
 use Rattle.basic.proofs.Elements.{repeats_at, behind_of, with_elem, Step, anchor_at, body_stop, body_more, finished, read_is, count_empty}
 use Rattle.pattern.specs.Inner.Prepared.{starred, atom_of, no_marks, may_lead, mark, marks, before_at, set_as, sets_of, befores, shape_by, Ready}
@@ -106,7 +106,7 @@ module _ (fold : Bool) (s : List ℕ) (old_sets : List (List ℕ)) (old_before :
         ls lb
 
     module _ (h : i < length s) (e : anchor_at s i ≡ false) (r : Piece)
-        (a : PieceAt (map_got (set_as fold) (atom first (get_or s i 0) (drop (i + 1) s))) s i r) (n : r.end ≡ 0 → ⊥) where
+        (a : PieceHere (map_got (set_as fold) (atom first (get_or s i 0) (drop (i + 1) s))) s i r) where
       abbrev repeats : Bool
       repeats = repeats_at s r.end
 
@@ -122,7 +122,7 @@ module _ (fold : Bool) (s : List ℕ) (old_sets : List (List ℕ)) (old_before :
         is : f.rest ≡ record { parts = elem repeats value ∷ more.parts; anchored = more.anchored }
 
       split : Split
-      split = go (body_more s i first h (set_as fold) r a e n) (body_of false (drop behind s)) refl
+      split = go (body_more s i first h (set_as fold) e r a) (body_of false (drop behind s)) refl
         where
           go : (x : Step (set_as fold) s i first r.end r.set) (o : Option Body) → body_of false (drop behind s) ≡ o → Split
           go x none q =

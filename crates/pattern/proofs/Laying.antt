@@ -2,25 +2,24 @@
 use mathlib.Core.Path.{◌≡◌, refl, sym, ap, ◌∙◌}
 use mathlib.Core.Bool.{Bool, true, false, not, ◌||◌, true≢false}
 use mathlib.Core.List.{List, []}
-use mathlib.Core.Option.{Option}
+use mathlib.Core.Option.{Option, none}
 use Prim.Native.Nat.{ℕ, ◌+◌, ◌*◌, ◌/◌, ◌%◌, ◌^◌, ◌<◌, ◌≤◌}
 use native.Mathlib.Omega.{arith}
 use lib.Dec.{eqb}
 use lib.ListN.{length, get_or, drop, set, replicate}
 use lib.Seq.{set-set, get_or-set_same}
-use borrow.Author.Tests.{ne_eqb}
 use Rattle.octets.specs.Bytes.{lower, upper}
-use Rattle.octets.specs.Lists.{text, pick, some_of}
+use Rattle.octets.specs.Lists.{text, some_of}
 use Rattle.basic.specs.Inner.Drawn.{drawn}
 use Rattle.basic.specs.Pattern.{Atom, byte, meets}
-use Rattle.basic.specs.Inner.Places.{map_got, PieceAt}
+use Rattle.basic.specs.Inner.Places.{map_got, PieceHere}
 use Rattle.basic.specs.Reading.{Read, read, atom}
 use Rattle.basic.specs.Inner.Sets.{word, words}
 use Rattle.basic.specs.declared.reader.Piece.{Piece}
-use Rattle.basic.proofs.Atoms.{piece_found, piece_lost, map_none, map_some, plain_is}
-use Rattle.basic.proofs.Listing.{piece_none, piece_some}
+use Rattle.basic.proofs.Atoms.{map_none, map_some, plain_is}
+use Rattle.basic.proofs.Listing.{piece_some}
 use Rattle.basic.proofs.Words.{only_words}
-use Rattle.pattern.specs.Inner.Prepared.{set_as, LaidAt}
+use Rattle.pattern.specs.Inner.Prepared.{set_as, LaidHere, NotLaid}
 use Rattle.pattern.proofs.Folding.{folded_set}
 
 -- ---- on a name, and as written
@@ -77,27 +76,23 @@ module _ (s : List ℕ) (i : ℕ) (first fold : Bool) (h : i < length s) (old : 
     there : get_or (set old at u) at [] ≡ u
     there = get_or-set_same old at u [] k
 
-    laid : (x : Atom) → whole ≡ read x (drop end s) → u ≡ set_as fold x → i < end → end ≤ length s → LaidAt fold first s i at end old (set old at u)
+    laid : (x : Atom) → whole ≡ read x (drop end s) → u ≡ set_as fold x → i < end → end ≤ length s → LaidHere fold first s i at end old (set old at u)
     laid x e q l m = record {
       piece = piece_some (map_got (set_as fold) whole) s i end (get_or (set old at u) at [])
           (ap (map_got (set_as fold)) e ∙ ap (λ (y : List ℕ). read y (drop end s)) (sym q ∙ sym there)) l m;
-      stored = ap (set old at) (sym there)
-          ∙ ap (λ (t : Bool). pick t old (set old at (get_or (set old at u) at []))) (sym (ne_eqb end 0 (λ z. omega arith)));
+      stored = ap (set old at) (sym there);
     }
 
   pub lay_plain : (new : List (List ℕ)) (t : Bool) → t ≡ not (some_of (eqb (get_or s i 0)) (text ".[\\*")) → t ≡ true
-      → new ≡ set old at (set_as fold (byte (get_or s i 0))) → LaidAt fold first s i at (i + 1) old new
+      → new ≡ set old at (set_as fold (byte (get_or s i 0))) → LaidHere fold first s i at (i + 1) old new
   lay_plain new t e y q =
       rw q (laid (i + 1) (set_as fold (byte (get_or s i 0))) (byte (get_or s i 0)) (plain_is s i first true h t e y) refl (omega arith) (omega arith))
 
-  module _ (r : Piece) (a : PieceAt (map_got (drawn true) whole) s i r) where
-    pub lay_lost : r.end ≡ 0 → LaidAt fold first s i at 0 old old
-    lay_lost z = record {
-      piece = piece_none (map_got (set_as fold) whole) s i (record { end = 0; set = get_or old at [] }) (ap (map_got (set_as fold)) (map_none (drawn true) whole (piece_lost a z))) refl;
-      stored = refl;
-    }
+  pub lay_lost : map_got (drawn true) whole ≡ none → NotLaid fold first s i old old
+  lay_lost e = record { refused = ap (map_got (set_as fold)) (map_none (drawn true) whole e); same = refl }
 
-    pub lay_read : (r.end ≡ 0 → ⊥) → (u : List ℕ) → ((x : Atom) → r.set ≡ drawn true x → u ≡ set_as fold x) → LaidAt fold first s i at r.end old (set old at u)
-    lay_read n u q =
-        let g = map_some (drawn true) whole r.set (drop r.end s) (piece_found a n) in
-        laid r.end u g.value g.is (q g.value (sym g.drawing)) (a.forward n) a.inside
+  pub lay_read : (r : Piece) → PieceHere (map_got (drawn true) whole) s i r → (u : List ℕ) → ((x : Atom) → r.set ≡ drawn true x → u ≡ set_as fold x)
+      → LaidHere fold first s i at r.end old (set old at u)
+  lay_read r a u q =
+      let g = map_some (drawn true) whole r.set (drop r.end s) a.reads in
+      laid r.end u g.value g.is (q g.value (sym g.drawing)) a.forward a.inside

@@ -6,14 +6,13 @@ use Prim.Native.Nat.{ℕ, ◌+◌, ◌-◌, ◌<◌, ◌≤◌}
 use native.Mathlib.Omega.{arith}
 use lib.Dec.{eqb, ltb}
 use lib.ListN.{length, get_or, set, length-set}
-use borrow.Author.Tests.{eq-eqb, ne_eqb}
 use Rattle.octets.specs.Lists.{pick, peek}
 use Rattle.machine.specs.declared.Shape.{Shape}
 use Rattle.basic.specs.Inner.Judged.{is_pattern}
 use Rattle.basic.specs.Inner.Places.{start_of, stop_of}
 use Rattle.basic.specs.declared.reader.Piece.{Piece}
 use Rattle.basic.proofs.Elements.{repeats_at, behind_of, stop_inside, stop_before, Counted, count_empty, count_start, count_lost, count_more, count_full, count_done}
-use Rattle.pattern.specs.Inner.Prepared.{no_marks, mark, before_at, set_as, shape_by, no_shape, LaidAt, Ready}
+use Rattle.pattern.specs.Inner.Prepared.{no_marks, mark, before_at, set_as, shape_by, no_shape, LaidHere, NotLaid, Ready}
 use Rattle.pattern.specs.declared.edition1.Marks.{Marks}
 use Rattle.pattern.proofs.Filling.{Whole, whole_of, Filling, fill_start, fill_stop, fill_more}
 use Rattle.pattern.proofs.Readying.{ready_none}
@@ -60,33 +59,29 @@ module _ (fold : Bool) (s : List ℕ) (old_sets : List (List ℕ)) (old_before :
           pub load_many : m.at ≡ 60 → (h : Shape) → h ≡ no_shape → Ready fold s h ss bs
           load_many full h q = ready_none fold s h ss bs (count_full s i first m.at l.counts stop w k full) q l.room_sets l.room_before
 
+          pub load_lost : (ss' : List (List ℕ)) → NotLaid fold first s i ss ss' → (h : Shape) → h ≡ no_shape → Ready fold s h ss' bs
+          load_lost ss' a h q =
+              ready_none fold s h ss' bs (count_lost s i first m.at l.counts stop w k (set_as fold) a.refused) q (ap length a.same ∙ l.room_sets) l.room_before
+
           -- the element at i is laid
-          module _ (end : ℕ) (ss' : List (List ℕ)) (a : LaidAt fold first s i m.at end ss ss') where
+          module _ (end : ℕ) (ss' : List (List ℕ)) (a : LaidHere fold first s i m.at end ss ss') where
             abbrev r : Piece
             r = record { end = end; set = get_or ss' m.at [] }
 
-            stored_by : (t : Bool) → eqb end 0 ≡ t → ss' ≡ pick t ss (set ss m.at r.set)
-            stored_by t e = a.stored ∙ ap (λ (b : Bool). pick b ss (set ss m.at r.set)) e
-
-            pub load_lost : end ≡ 0 → (h : Shape) → h ≡ no_shape → Ready fold s h ss' bs
-            load_lost z h q =
-                ready_none fold s h ss' bs (count_lost s i first m.at l.counts stop w k (set_as fold) r a.piece z) q
-                (ap length (stored_by true (eq-eqb end 0 z)) ∙ l.room_sets) l.room_before
-
-            module _ (n : end ≡ 0 → ⊥) (free : m.at ≡ 60 → ⊥) where
+            module _ (free : m.at ≡ 60 → ⊥) where
               counts_on : (i' : ℕ) → i' ≡ behind_of s end → (x : ℕ) → x ≡ m.at + 1 → Counted s i' false x
-              counts_on i' q x e = rw e (count_more s i first m.at l.counts stop w k (set_as fold) r a.piece i' n q)
+              counts_on i' q x e = rw e (count_more s i first m.at l.counts stop w k (set_as fold) r a.piece i' q)
 
               load_more : (i' : ℕ) (m' : Marks) (v : ℕ) (b : Bool) → b ≡ repeats_at s end → i' ≡ behind_of s end → m' ≡ mark m b → v ≡ before_at m b
                   → Loading i' false m' ss' (set bs m.at v)
               load_more i' m' v b eb ei em ev =
                   let one : m'.at ≡ m.at + 1 = ap (λ (x : Marks). x.at) em in
-                  subst⁻¹ (λ (x : List (List ℕ)). Loading i' false m' x (set bs m.at v)) (stored_by false (ne_eqb end 0 n))
+                  subst⁻¹ (λ (x : List (List ℕ)). Loading i' false m' x (set bs m.at v)) a.stored
                   (record {
                     counts = counts_on i' ei m'.at one;
                     fills = λ y. let f = l.fills y in (
                       f.0,
-                      fill_more fold s old_sets old_before f.0 i first m ss bs f.1 (stop_inside s i stop w k) (stop_before s i stop w k) r a.piece n i' m' v b eb ei em ev,
+                      fill_more fold s old_sets old_before f.0 i first m ss bs f.1 (stop_inside s i stop w k) (stop_before s i stop w k) r a.piece i' m' v b eb ei em ev,
                     );
                     low = omega (arith, load_room m.at l.low free);
                     room_sets = length-set ss m.at r.set ∙ l.room_sets;

@@ -4,7 +4,7 @@ ghost use Rattle.octets.specs.Bytes.{lower, upper};
 ghost use Rattle.basic.specs.Inner.Sets.{word, words};
 
 // The lowest 26 bits, one for each letter.
-const LETTERS: u64 = 67108863;
+const LETTERS: u64 = (1 << 26) - 1;
 
 // A set's second word on a name: "an element meets a byte if it meets its lower or its upper form". `A` is bit 1, `a` bit 33.
 pub(crate) fn folded_word(w: u64) -> u64

@@ -4,7 +4,6 @@
 ghost use Rattle.std.specs.Prelude.{◌≡◌, Bool, List, ℕ};
 ghost use Rattle.machine.specs.Inner.Machine.{Closed};
 ghost use Rattle.pattern.specs.Inner.Prepared.{Ready};
-ghost use Rattle.place.specs.Place.{nowhere};
 ghost use Rattle.place.specs.Inner.Texts.{place_text};
 
 use machine::{Shape, leftmost};
@@ -19,15 +18,11 @@ pub struct Place {
     pub size: usize,
 }
 
-fn nowhere() -> Place
-    ensures { result ≡ nowhere }
-{
-    Place {
-        found: false,
-        start: 0,
-        size: 0,
-    }
-}
+const NOWHERE: Place = Place {
+    found: false,
+    start: 0,
+    size: 0,
+};
 
 // Where the prepared pattern matches the text: one scan from the end finds the start, one forward the length.
 pub fn locate(h: Shape, sets: &[[u64; 4]; 60], before: &[u64; 60], text: &[u8]) -> Place
@@ -36,7 +31,7 @@ pub fn locate(h: Shape, sets: &[[u64; 4]; 60], before: &[u64; 60], text: &[u8]) 
 {
     let start = leftmost(h, sets, before, text);
     if text.len() < start {
-        return nowhere();
+        return NOWHERE;
     }
     let size = longest(h, sets, before, text, start);
     Place {

@@ -1,51 +1,39 @@
--- The loop to the end of a line, and the loop over the lines.
+-- The loop over the lines of a block.
 use mathlib.Core.Bool.{Bool, true, false}
 use mathlib.Core.Path.{◌≡◌, refl, sym, ap, ◌∙◌}
 use mathlib.Core.List.{List, [], ◌∷◌}
 use Prim.Native.Nat.{ℕ, suc, ◌+◌, ◌-◌, ◌≤◌, ◌<◌, zero-le, suc-le-suc}
 use native.Mathlib.Nat.{zero-add, add-zero, add_assoc}
-use native.Mathlib.Numerals.{add-one, add-one-le}
 use native.Mathlib.Omega.{arith}
 use lib.Dec.{eqb, leb}
-use lib.ListN.{length, get_or, take, drop, length-drop, drop_of_length-le}
-use lib.Seq.{drop-cons, drop-drop}
-use borrow.Author.Tests.{eq-eqb, ne_eqb, leb-true, leb-false, le-leb, lt-leb}
+use lib.ListN.{length, take, drop, length-drop}
+use lib.Seq.{drop-drop}
+use borrow.Author.Tests.{eq-eqb, ne_eqb, eqb-true, eqb-false, leb-true, leb-false, le-leb, lt-leb}
 use Rattle.octets.specs.Lists.{pick, total}
-use Rattle.probes.specs.Inner.Lines.{longer, lines, passing, before_lf}
+use Rattle.cuts.specs.Cutting.{begins}
+use Rattle.cuts.specs.Inner.Searching.{first}
+use Rattle.cuts.proofs.Search.{first_yes, first_no, first_le}
+use Rattle.probes.specs.Inner.Lines.{longer, lines, passing}
 
 -- ---- to the end of a line
 
-lf_here : (b : ℕ) (s : List ℕ) → b ≡ 10 → before_lf (b ∷ s) ≡ 0
-unfolding before_lf
-lf_here b s e = rw (eq-eqb b 10 e, before_lf)
+-- how many bytes stand before the first LF, or all
+before_lf : List ℕ → ℕ
+before_lf [] = 0
+before_lf (b ∷ s) = pick (eqb b 10) 0 (suc (before_lf s))
 
-lf_later : (b : ℕ) (s : List ℕ) → (b ≡ 10 → ⊥) → before_lf (b ∷ s) ≡ suc (before_lf s)
-unfolding before_lf
-lf_later b s n = rw (ne_eqb b 10 n, before_lf)
+-- the search for one byte finds that place
+lf_is : (s : List ℕ) → first (begins (10 ∷ [])) s ≡ before_lf s
+unfolding first before_lf
+lf_is [] = refl
+lf_is (b ∷ s) = go (eqb b 10) refl (lf_is s)
+  where
+    go : (t : Bool) → eqb b 10 ≡ t → first (begins (10 ∷ [])) s ≡ before_lf s → first (begins (10 ∷ [])) (b ∷ s) ≡ pick t 0 (suc (before_lf s))
+    go true e ih = first_yes (begins (10 ∷ [])) b s (rw (eq-eqb 10 b (sym (eqb-true b 10 e))))
+    go false e ih = first_no (begins (10 ∷ [])) b s (rw (ne_eqb 10 b (λ q. eqb-false b 10 e (sym q)))) ∙ ap suc ih
 
--- the search has come to i; t is where it will end
-pub record Came (s : List ℕ) (t i : ℕ) : Type 0 where
-  pub inside : i ≤ length s
-  pub same : i + before_lf (drop i s) ≡ t
-
-module _ (s : List ℕ) (t i : ℕ) (k : Came s t i) where
-  pub came_next : i < length s → (get_or s i 0 ≡ 10 → ⊥) → Came s t (i + 1)
-  came_next h n =
-      let cut : drop i s ≡ get_or s i 0 ∷ drop (suc i) s = drop-cons s i 0 h in
-      let step : before_lf (drop i s) ≡ suc (before_lf (drop (i + 1) s)) = rw (add-one, cut) (lf_later _ _ n) in
-      record { inside = add-one-le h; same = omega (arith, step, k.same) }
-
-  pub came_found : i < length s → get_or s i 0 ≡ 10 → i ≡ t
-  came_found h e =
-      let cut : drop i s ≡ get_or s i 0 ∷ drop (suc i) s = drop-cons s i 0 h in
-      let step : before_lf (drop i s) ≡ 0 = rw cut (lf_here _ _ e) in
-      omega (arith, step, k.same)
-
-  pub came_end : length s ≤ i → i ≡ t
-  unfolding before_lf
-  came_end h =
-      let step : before_lf (drop i s) ≡ 0 = rw (drop_of_length-le s h) in
-      omega (arith, step, k.same)
+by_place : (block : List ℕ) (at end : ℕ) → end ≡ at + first (begins (10 ∷ [])) (drop at block) → end ≡ at + before_lf (drop at block)
+by_place block at end e = e ∙ ap (λ (k : ℕ). at + k) (lf_is (drop at block))
 
 -- ---- over the lines
 
@@ -84,8 +72,8 @@ pub one_most : (j : ℕ) (m : Bool) → j ≡ pick m 1 0 → j ≤ 1
 one_most j true e = omega arith
 one_most j false e = omega arith
 
-pub line_inside : (block : List ℕ) (at end : ℕ) → at ≤ length block → end ≡ at + before_lf (drop at block) → end ≤ length block
-line_inside block at end h e = omega (arith, lf_le (drop at block), length-drop at block)
+pub line_inside : (block : List ℕ) (at end : ℕ) → at ≤ length block → end ≡ at + first (begins (10 ∷ [])) (drop at block) → end ≤ length block
+line_inside block at end h e = omega (arith, first_le (begins (10 ∷ [])) (drop at block), length-drop at block)
 
 -- a line counts 1 where it passes, else 0
 abbrev counts : (List ℕ → Bool) → List ℕ → ℕ
@@ -139,13 +127,18 @@ module _ (f : List ℕ → Bool) (block : List ℕ) where
       counted : j ≡ counts f line
       counted = ej ∙ ap (λ (t : Bool). pick t 1 0) em
 
-      pub counting_next : (n : ℕ) → Counting f block at n → Counting f block (end + 1) (n + j)
-      counting_next n w =
+      line_next : (n : ℕ) → Counting f block at n → Counting f block (end + 1) (n + j)
+      line_next n w =
           record {
-            inside = omega (arith, line_inside block at end h e);
+            inside = omega (arith, lf_le (drop at block), length-drop at block);
             few = omega (arith, one_most j m ej, w.few, line_order);
             left =
                 ap (λ (k : ℕ). n + k + total (counts f) (after (end + 1) block)) counted
                 ∙ add_assoc n (counts f line) (total (counts f) (after (end + 1) block))
                 ∙ sym (ap (λ (l : List (List ℕ)). n + total (counts f) l) this) ∙ w.left;
           }
+
+  pub counting_next : (at end : ℕ) → at ≤ length block → end ≡ at + first (begins (10 ∷ [])) (drop at block)
+      → (m : Bool) → m ≡ f (take (end - at) (drop at block)) → (j : ℕ) → j ≡ pick m 1 0
+      → (n : ℕ) → Counting f block at n → Counting f block (end + 1) (n + j)
+  counting_next at end h p = line_next at end h (by_place block at end p)

@@ -1,28 +1,13 @@
 // Two calls over a block of lines, so that tests and measures reach prepared patterns from C.
-ghost use Rattle.std.specs.Prelude.{◌≡◌, Bool, not, List, ℕ, ◌+◌, ◌≤◌, ◌%◌, eqb, length, drop};
+ghost use Rattle.std.specs.Prelude.{◌≡◌, Bool, not, List, ℕ, ◌%◌, eqb, length};
 ghost use Rattle.machine.specs.Inner.Machine.{Closed};
 ghost use Rattle.pattern.specs.Inner.Answers.{meets_text};
 ghost use Rattle.pattern.specs.Inner.Prepared.{Ready};
-ghost use Rattle.probes.specs.Inner.Lines.{LinesTo, matched, matching, before_lf};
+ghost use Rattle.probes.specs.Inner.Lines.{LinesTo, matched, matching};
 
 use machine::Shape;
 use octets::{from_long, one_if};
 use pattern::{first_match, is_loaded, load, test};
-
-// Where the line that starts at a place ends.
-fn line_end(block: &[u8], from: usize) -> usize
-    requires { from ≤ length block.now }
-    ensures { result ≡ from + before_lf (drop from block.now) }
-{
-    let mut i = from;
-    while i < block.len() {
-        if block[i] == 10 {
-            return i;
-        }
-        i += 1;
-    }
-    i
-}
 
 // The lines that the prepared pattern matches.
 fn count(h: Shape, sets: &[[u64; 4]; 60], before: &[u64; 60], block: &[u8]) -> usize
@@ -32,7 +17,7 @@ fn count(h: Shape, sets: &[[u64; 4]; 60], before: &[u64; 60], block: &[u8]) -> u
     let mut n: usize = 0;
     let mut at: usize = 0;
     while at <= block.len() {
-        let end = line_end(block, at);
+        let end = cuts::place_of(block, at, b'\n');
         let m = test(h, sets, before, &block[at..end]);
         n += from_long(one_if(m));
         at = end + 1;
@@ -71,7 +56,7 @@ fn count_patterns(
     let mut n: usize = 0;
     let mut at: usize = 0;
     while at <= block.len() {
-        let end = line_end(block, at);
+        let end = cuts::place_of(block, at, b'\n');
         let m = read_and_test(&block[at..end], fold, text, sets, before);
         n += from_long(one_if(m));
         at = end + 1;

@@ -13,26 +13,26 @@ loop-i-init c = (search count_start, omega arith)
 pub returns-then-n-eq60 : goal.returns-then-n-eq60
 returns-then-n-eq60 c = search count_full
 
-pub atom_at-a-requires : goal.atom_at-a-requires
-atom_at-a-requires c = search (rules, stop_inside)
+pub atom_at-requires : goal.atom_at-requires
+atom_at-requires c = search (rules, stop_inside)
 
-pub returns-then-end-eq0 : goal.returns-then-end-eq0
-returns-then-end-eq0 c = search count_lost
+pub returns-in_default : goal.returns-in_default
+returns-in_default c = count_lost _ _ _ _ c.loop-i.invariant.0 _ c.stop_at-stop.ensures c.loop-i-test.true _ c.in_default.ensures
 
 pub behind-i-requires : goal.behind-i-requires
-behind-i-requires c = omega (arith, c.atom_at-a.ensures.inside)
+behind-i-requires c = omega (arith, c.in-Some.ensures.inside)
 
 pub overflow_add-n : goal.overflow_add-n
 overflow_add-n c = omega arith
 
 pub loop-i-smaller : goal.loop-i-smaller
 loop-i-smaller c =
-    let a = c.atom_at-a in
-    let j : a.result.end ≤ c.behind-i.result = search behind_after in
-    omega (arith, a.ensures.forward c.if-end-eq0.false)
+    let a = c.in-Some in
+    let j : a.a.end ≤ c.behind-i.result = search behind_after in
+    omega (arith, a.ensures.forward, a.ensures.inside)
 
 pub loop-i-preserved : goal.loop-i-preserved
-loop-i-preserved c = (search (count_more, behind_at), omega arith)
+loop-i-preserved c = (count_more _ _ _ _ c.loop-i.invariant.0 _ c.stop_at-stop.ensures c.loop-i-test.true _ _ c.in-Some.ensures _ (search behind_at), omega arith)
 
 pub returns : goal.returns
 returns c = search count_done

@@ -1,5 +1,6 @@
 -- What the reader's code answers, by place in the pattern.
-use Rattle.std.specs.Prelude.{Bool, ◌≡◌, List, ℕ, suc, ◌-◌, ◌≤◌, ◌<◌, eqb, length, get_or, drop}
+use Rattle.std.specs.Prelude.{Bool, ◌≡◌, List, ℕ, suc, ◌-◌, ◌≤◌, ◌<◌, eqb, length, get_or, drop, Some, None}
+use Rattle.std.specs.Prelude as Std
 use Rattle.std.proofs.Math.Option.{Option, none, some}
 use Rattle.octets.specs.Lists.{pick, peek}
 use Rattle.basic.specs.Pattern.{Range}
@@ -26,21 +27,23 @@ start_of s = pick (eqb (peek s) 94) 1 0
 abbrev pub stop_of : List ℕ → ℕ
 stop_of s = pick (eqb (get_or s (length s - 1) 0) 36) (length s - 1) (length s)
 
--- a range and what is left from `end` on; 0 says refused
-abbrev pub item_read : List ℕ → Item → Option (Read Range)
-item_read s r = pick (eqb r.end 0) none (read (record { lo = r.lo; hi = r.hi }) (drop r.end s))
+-- a range that is read at i: what is left stands from its `end` on, behind i and within the pattern
+pub record ItemHere (whole : Option (Read Range)) (s : List ℕ) (i : ℕ) (r : Item) : Type 0 where
+  pub reads : whole ≡ read (record { lo = r.lo; hi = r.hi }) (drop r.end s)
+  pub forward : i < r.end
+  pub inside : r.end ≤ length s
 
 -- a set, likewise
-abbrev pub piece_read : List ℕ → Piece → Option (Read (List ℕ))
-piece_read s r = pick (eqb r.end 0) none (read r.set (drop r.end s))
-
--- an answer at i is what is read there, ends behind i, and within the pattern
-pub record ItemAt (whole : Option (Read Range)) (s : List ℕ) (i : ℕ) (r : Item) : Type 0 where
-  pub reads : whole ≡ item_read s r
-  pub forward : (r.end ≡ 0 → ⊥) → i < r.end
+pub record PieceHere (whole : Option (Read (List ℕ))) (s : List ℕ) (i : ℕ) (r : Piece) : Type 0 where
+  pub reads : whole ≡ read r.set (drop r.end s)
+  pub forward : i < r.end
   pub inside : r.end ≤ length s
 
-pub record PieceAt (whole : Option (Read (List ℕ))) (s : List ℕ) (i : ℕ) (r : Piece) : Type 0 where
-  pub reads : whole ≡ piece_read s r
-  pub forward : (r.end ≡ 0 → ⊥) → i < r.end
-  pub inside : r.end ≤ length s
+-- an answer at i is what is read there, or none where the pattern is refused
+abbrev pub ItemAt : Option (Read Range) → List ℕ → ℕ → Std.Option Item → Type 0
+ItemAt whole s i None = whole ≡ none
+ItemAt whole s i (Some r) = ItemHere whole s i r
+
+abbrev pub PieceAt : Option (Read (List ℕ)) → List ℕ → ℕ → Std.Option Piece → Type 0
+PieceAt whole s i None = whole ≡ none
+PieceAt whole s i (Some r) = PieceHere whole s i r

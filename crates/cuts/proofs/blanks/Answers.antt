@@ -1,17 +1,13 @@
-use Prim.Native.Nat.{zero-le}
-use native.Mathlib.Nat.{zero-add}
-use Rattle.cuts.proofs.Search.{came_end}
-use Rattle.cuts.proofs.Trims.{blanks_found, blanks_next}
+use Rattle.std.proofs.Common.{◌≡◌, rules, sym, ◌∙◌, true, false}
+use Rattle.std.proofs.lemmas.Iterator.{IsFirst-from_position, YieldsList-from_slice}
+use borrow.Author.Tests.{tests}
+use Rattle.octets.specs.Bytes.{white}
+use Rattle.cuts.proofs.Search.{blanks_found}
 use Rattle.cuts.proofs.blanks.Goals as goal
 
-pub loop-i-init : goal.loop-i-init
-loop-i-init c = record { inside = zero-le; same = zero-add _ }
-
-pub returns-then-not-is_white : goal.returns-then-not-is_white
-returns-then-not-is_white c = search blanks_found
-
-pub loop-i-preserved : goal.loop-i-preserved
-loop-i-preserved c = search blanks_next
-
 pub returns : goal.returns
-returns c = search came_end
+returns c =
+    c.unwrap_or.ensures
+    ∙ sym (blanks_found c.args.t.now c.position.result
+    (IsFirst-from_position _ _ _ (λ x. white x ≡ false) (λ x. white x ≡ true) c.position.ensures.ran (YieldsList-from_slice c.args.t.now cc)
+    (λ x q k. search (rules, tests)) (λ x q k. search (rules, tests))))

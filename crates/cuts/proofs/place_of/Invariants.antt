@@ -1,6 +1,6 @@
 use mathlib.Core.List.{◌∷◌, []}
-use Prim.Native.Nat.{◌+◌, ◌-◌}
-use lib.ListN.{length, drop}
+use Prim.Native.Nat.{◌+◌}
+use lib.ListN.{drop}
 use Rattle.cuts.specs.Cutting.{begins}
 use Rattle.cuts.specs.Inner.Searching.{first}
 use Rattle.cuts.proofs.Search.{Came}
@@ -8,6 +8,3 @@ use Rattle.cuts.proofs.place_of.Given as goal
 
 abbrev pub invariant-loop-i : goal.invariant-loop-i
 invariant-loop-i l = Came (begins (l.b ∷ [])) l.s (l.from + first (begins (l.b ∷ [])) (drop l.from l.s)) l.i
-
-abbrev pub decreases-loop-i : goal.decreases-loop-i
-decreases-loop-i l = length l.s - l.i

@@ -1,4 +1,4 @@
-use Rattle.machine.proofs.Hunt.{start_below, found_empty, found_null, found_shut, only_none}
+use Rattle.machine.proofs.Hunt.{start_below, found_empty, found_null, found_shut, stops_below}
 use mathlib.Core.Path.{sym, ◌∙◌}
 use Rattle.machine.proofs.found.Goals as goal
 
@@ -18,10 +18,13 @@ returns-then-shut c =
 
 pub scan_down-requires : goal.scan_down-requires
 scan_down-requires c =
-    (c.requires, c.if-n-eq0.false, sym c.empty_somewhere.ensures ∙ c.if-empty_somewhere.false, only_none _)
+    (c.requires, c.if-n-eq0.false, sym c.empty_somewhere.ensures ∙ c.if-empty_somewhere.false, tt)
 
 pub returns-then-h-eq0 : goal.returns-then-h-eq0
 returns-then-h-eq0 c = c.scan_down.ensures
+
+pub only-requires : goal.only-requires
+only-requires c = (c.if-h-eq0.false, stops_below _ _ c.requires)
 
 pub scan_down-requires-2 : goal.scan_down-requires-2
 scan_down-requires-2 c =

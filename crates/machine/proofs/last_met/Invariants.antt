@@ -5,6 +5,3 @@ use Rattle.machine.proofs.last_met.Given as goal
 
 abbrev pub invariant-loop-i : goal.invariant-loop-i
 invariant-loop-i l = LastMet (get_or l.sets l.p []) l.text l.from l.i
-
-abbrev pub decreases-loop-i : goal.decreases-loop-i
-decreases-loop-i l = l.i

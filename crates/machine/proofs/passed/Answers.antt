@@ -14,8 +14,8 @@ returns-then-i-text c = search (rules, pass_none)
 pub returns-then-h-eq0 : goal.returns-then-h-eq0
 returns-then-h-eq0 c = search (rules, pass_all)
 
-pub returns-then-door-lt60 : goal.returns-then-door-lt60
-returns-then-door-lt60 c = search (rules, pass_door)
+pub returns-in-Some : goal.returns-in-Some
+returns-in-Some c = search (rules, pass_door)
 
-pub returns : goal.returns
-returns c = search (rules, pass_none)
+pub returns-in-None : goal.returns-in-None
+returns-in-None c = search (rules, pass_none)

@@ -1,5 +1,5 @@
 -- A machine of at most 60 positions, and where a part of a text that it takes begins. It knows no edition of patterns.
-use Rattle.std.specs.Prelude.{◌≡◌, Bool, true, false, not, ◌&&◌, ◌||◌, List, [], ◌∷◌, ℕ, ◌+◌, ◌/◌, ◌%◌, ◌<◌, ◌≤◌, T, eqb, ltb, get_or, drop, length}
+use Rattle.std.specs.Prelude.{◌≡◌, Bool, true, false, not, ◌&&◌, ◌||◌, List, [], ◌∷◌, ℕ, ◌+◌, ◌/◌, ◌%◌, ◌<◌, ◌≤◌, T, eqb, ltb, get_or, drop, length, Option, Some, None}
 use Rattle.octets.specs.Bits.{bit}
 use Rattle.octets.specs.Inner.Masks.{Below}
 use Rattle.octets.specs.Lists.{pick, empty}
@@ -110,9 +110,10 @@ pub record Shut (h : Shape) (sets : List (List ℕ)) (b : ℕ) : Type 0 where
   pub not_inner : h.inner ≡ 0
   pub not_start : (p : ℕ) → T (bit h.start p) → T (has sets p b) → ⊥
 
--- r, where it is a position, is the only one of the mask
-abbrev pub Only : ℕ → ℕ → Type 0
-Only mask r = r < 60 → (k : ℕ) → T (bit mask k) → k ≡ r
+-- the position, where one is told, is the only one of the mask
+abbrev pub Only : ℕ → Option ℕ → Type 0
+Only mask None = Unit {0}
+Only mask (Some p) = (p < 60) × ((k : ℕ) → T (bit mask k) → k ≡ p)
 
 -- no byte of the set stands at a place above r, up to `from`
 pub record LastMet (set text : List ℕ) (from r : ℕ) : Type 0 where

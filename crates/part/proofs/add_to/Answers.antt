@@ -17,9 +17,6 @@ offset_bounds-masks-p c = omega (arith, lowest_below _ _ _ _ _ c.loop-left.invar
 pub bounds-masks-p : goal.bounds-masks-p
 bounds-masks-p c = omega (arith, c.loop-left.invariant.1, lowest_below _ _ _ _ _ c.loop-left.invariant.0 c.loop-left-test.true _ refl c.requires.1)
 
-pub offset_bounds-masks-p-in-loop-left : goal.offset_bounds-masks-p-in-loop-left
-offset_bounds-masks-p-in-loop-left c = omega (arith, lowest_below _ _ _ _ _ c.loop-left.invariant.0 c.loop-left-test.true _ refl c.requires.1)
-
 pub bounds-masks-p-in-loop-left : goal.bounds-masks-p-in-loop-left
 bounds-masks-p-in-loop-left c = omega (arith, c.loop-left.invariant.1, lowest_below _ _ _ _ _ c.loop-left.invariant.0 c.loop-left-test.true _ refl c.requires.1)
 

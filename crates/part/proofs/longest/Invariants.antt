@@ -1,10 +1,5 @@
 use Rattle.part.proofs.Forward.{Forward}
-use Prim.Native.Nat.{◌-◌}
-use lib.ListN.{length}
 use Rattle.part.proofs.longest.Given as goal
 
 abbrev pub invariant-loop-i : goal.invariant-loop-i
 invariant-loop-i l = Forward l.h l.sets l.before l.text l.start l.i l.candidates l.best
-
-abbrev pub decreases-loop-i : goal.decreases-loop-i
-decreases-loop-i l = length l.text - l.i

@@ -5,7 +5,7 @@ use borrow.Author.Rules.{rules}
 use Rattle.part.proofs.turn.Goals as goal
 
 pub loop-q-init : goal.loop-q-init
-loop-q-init c = (omega arith, turns_none _ _ c.requires.after_value, search rules)
+loop-q-init c = (turns_none _ _ c.requires.after_value, search rules)
 
 pub offset_bounds-before-q : goal.offset_bounds-before-q
 offset_bounds-before-q c = omega (arith, c.requires.closed.few, c.loop-q-test.true)
@@ -17,12 +17,12 @@ pub add_to-requires : goal.add_to-requires
 add_to-requires c =
     let l = c.loop-q-test.true in
     let closed = c.requires.closed in
-    (c.loop-q.invariant.2, before_below _ _ closed _ l, omega (arith, closed.few, l))
+    (c.loop-q.invariant.1, before_below _ _ closed _ l, omega (arith, closed.few, l))
 
 pub loop-q-preserved : goal.loop-q-preserved
 loop-q-preserved c =
     let l = c.loop-q.invariant in
-    (omega arith, turns_next _ _ _ l.1 _ c.add_to.ensures, c.add_to.ensures.long ∙ l.2)
+    (turns_next _ _ _ l.0 _ c.add_to.ensures, c.add_to.ensures.long ∙ l.1)
 
 pub returns : goal.returns
-returns c = turns_all _ _ _ _ c.loop-q.invariant.1 c.loop-q.invariant.0 c.loop-q-test.false
+returns c = turns_all _ _ _ _ c.loop-q.invariant.0 c.loop-q.auto.q-end c.loop-q-test.false

@@ -1,5 +1,7 @@
 -- A prepared pattern: what its machine does, and how edition 1 makes one.
-use Rattle.std.specs.Prelude.{◌≡◌, Bool, true, false, not, ◌&&◌, ◌||◌, ◌↔◌, List, [], ◌∷◌, ℕ, ◌+◌, ◌%◌, ◌^◌, ◌≤◌, T, eqb, length, get_or, drop, set}
+use Rattle.std.specs.Prelude.{◌≡◌, Bool, true, false, not, ◌&&◌, ◌||◌, ◌↔◌, List, [], ◌∷◌, ℕ, ◌+◌, ◌%◌, ◌^◌, ◌≤◌, T, eqb, length, get_or, drop, set, Some, None}
+use Rattle.std.specs.Prelude as Std
+use Rattle.std.proofs.Math.Option.{none}
 use Rattle.std.specs.Int.Bits.{bit_or}
 use Rattle.octets.specs.Bits.{bit}
 use Rattle.octets.specs.Lists.{pick}
@@ -9,7 +11,7 @@ use Rattle.part.specs.Inner.Part.{PartAt}
 use Rattle.basic.specs.Pattern.{Atom, Elem, once, star}
 use Rattle.basic.specs.Reading.{atom}
 use Rattle.basic.specs.Inner.Judged.{is_pattern}
-use Rattle.basic.specs.Inner.Places.{map_got, PieceAt}
+use Rattle.basic.specs.Inner.Places.{map_got, PieceHere}
 use Rattle.basic.specs.Inner.Sets.{words}
 use Rattle.pattern.specs.Inner.Answers.{meet_as, begins_at, FitsText}
 use Rattle.pattern.specs.declared.edition1.Marks.{Marks}
@@ -84,10 +86,19 @@ abbrev pub befores : Marks → List Elem → List ℕ
 befores m [] = []
 befores m (e ∷ es) = before_at m (starred e) ∷ befores (mark m (starred e)) es
 
--- what laying the atom at i leaves: where it ends, and its set at the place `at`; 0, and nothing laid, where it is refused
-pub record LaidAt (fold first : Bool) (s : List ℕ) (i at end : ℕ) (old_sets sets : List (List ℕ)) : Type 0 where
-  pub piece : PieceAt (map_got (set_as fold) (atom first (get_or s i 0) (drop (i + 1) s))) s i (record { end = end; set = get_or sets at [] })
-  pub stored : sets ≡ pick (eqb end 0) old_sets (set old_sets at (get_or sets at []))
+-- what laying the atom at i leaves: where it ends, and its set at the place `at`
+pub record LaidHere (fold first : Bool) (s : List ℕ) (i at end : ℕ) (old_sets sets : List (List ℕ)) : Type 0 where
+  pub piece : PieceHere (map_got (set_as fold) (atom first (get_or s i 0) (drop (i + 1) s))) s i (record { end = end; set = get_or sets at [] })
+  pub stored : sets ≡ set old_sets at (get_or sets at [])
+
+-- where it is refused: nothing is laid
+pub record NotLaid (fold first : Bool) (s : List ℕ) (i : ℕ) (old_sets sets : List (List ℕ)) : Type 0 where
+  pub refused : map_got (set_as fold) (atom first (get_or s i 0) (drop (i + 1) s)) ≡ none
+  pub same : sets ≡ old_sets
+
+abbrev pub LaidAt : Bool → Bool → List ℕ → ℕ → ℕ → Std.Option ℕ → List (List ℕ) → List (List ℕ) → Type 0
+LaidAt fold first s i at None old_sets sets = NotLaid fold first s i old_sets sets
+LaidAt fold first s i at (Some end) old_sets sets = LaidHere fold first s i at end old_sets sets
 
 -- `^` lets a part begin only at the text's start, `$` lets it end only at the text's end
 abbrev pub shape_by : Marks → Bool → Bool → Shape

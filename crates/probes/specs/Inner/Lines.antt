@@ -1,5 +1,5 @@
 -- How many lines of a block a pattern matches, and how many are patterns that match a text: two calls for tests and measures.
-use Rattle.std.specs.Prelude.{Bool, not, List, [], ◌∷◌, ◌≡◌, ℕ, suc, ◌%◌, eqb}
+use Rattle.std.specs.Prelude.{Bool, not, List, [], ◌∷◌, ◌≡◌, ℕ, ◌%◌, eqb}
 use Rattle.octets.specs.Lists.{pick, total}
 use Rattle.basic.specs.Inner.Judged.{is_pattern}
 use Rattle.pattern.specs.Inner.Answers.{meets_text}
@@ -32,10 +32,3 @@ matching fold text block = passing (λ p. meets_text fold p text) block
 pub record LinesTo (p : List ℕ) (fold : ℕ) (block : List ℕ) (number met : ℕ) : Type 0 where
   pub number_is : number ≡ pick (is_pattern p) 0 5
   pub met_is : met ≡ pick (is_pattern p) (matched (not (eqb fold 0)) p block % 4294967296) 0
-
--- ---- how the code goes through the block
-
--- how many bytes stand before the first LF, or all
-unfoldable pub before_lf : List ℕ → ℕ
-before_lf [] = 0
-before_lf (b ∷ s) = pick (eqb b 10) 0 (suc (before_lf s))

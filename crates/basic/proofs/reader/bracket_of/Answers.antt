@@ -1,8 +1,8 @@
 use Rattle.basic.proofs.Atoms.{list_refused, list_closed}
 use Rattle.basic.proofs.reader.bracket_of.Goals as goal
 
-pub returns-then-end-eq0 : goal.returns-then-end-eq0
-returns-then-end-eq0 c = list_refused _ _ _ _ _ c.items_at-p.ensures _ c.if-end-eq0.true c.no_piece.ensures
-
 pub returns : goal.returns
-returns c = list_closed _ _ _ _ _ c.items_at-p.ensures _ c.if-end-eq0.false c.closed-set.ensures
+returns c = list_closed _ _ _ _ _ c.in_ok-p.ensures _ c.closed-set.ensures
+
+pub returns-in_err-p : goal.returns-in_err-p
+returns-in_err-p c = rw c.from_residual.ensures (list_refused c.args.s.now c.args.from c.args.negated c.args.build c.in_err-p.ensures)

@@ -1,3 +1,4 @@
+use native.Mathlib.Omega.{arith}
 use Rattle.contents.proofs.Values.{spanning_first, spanning_found, spanning_next, spanning_end}
 use Rattle.contents.proofs.pieces.piece_end.Goals as goal
 
@@ -11,4 +12,4 @@ pub loop-i-preserved : goal.loop-i-preserved
 loop-i-preserved c = search spanning_next
 
 pub returns : goal.returns
-returns c = search spanning_end
+returns c = omega (arith, spanning_end _ _ _ _ c.loop-i.invariant c.loop-i-test.false, c.loop-i.invariant.inside)

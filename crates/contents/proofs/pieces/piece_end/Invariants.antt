@@ -1,5 +1,5 @@
-use Prim.Native.Nat.{◌+◌, ◌-◌}
-use lib.ListN.{length, drop}
+use Prim.Native.Nat.{◌+◌}
+use lib.ListN.{drop}
 use Rattle.cuts.specs.Inner.Searching.{span}
 use Rattle.contents.specs.Values.{plain, step, cuts}
 use Rattle.contents.proofs.Values.{Spanning}
@@ -7,6 +7,3 @@ use Rattle.contents.proofs.pieces.piece_end.Given as goal
 
 abbrev pub invariant-loop-i : goal.invariant-loop-i
 invariant-loop-i l = Spanning l.v (l.from + span cuts step plain (drop l.from l.v)) l.w l.i
-
-abbrev pub decreases-loop-i : goal.decreases-loop-i
-decreases-loop-i l = length l.v - l.i

@@ -16,7 +16,7 @@ overflow_add-n c =
 
 pub overflow_add-at : goal.overflow_add-at
 overflow_add-at c =
-    omega (arith, line_inside _ _ _ c.loop-at-test.true c.line_end-end.ensures)
+    omega (arith, line_inside _ _ _ c.loop-at-test.true c.place_of-end.ensures)
 
 pub loop-at-smaller : goal.loop-at-smaller
 loop-at-smaller c = search (rules, line_inside)
@@ -24,7 +24,7 @@ loop-at-smaller c = search (rules, line_inside)
 pub loop-at-preserved : goal.loop-at-preserved
 loop-at-preserved c =
     let more = c.loop-at-test.true in
-    let end = c.line_end-end.ensures in (
+    let end = c.place_of-end.ensures in (
       omega (arith, c.loop-at.invariant.0, c.from_long-n.ensures, c.one_if.ensures.1, end),
       λ fold p k. counting_next _ _ _ _ more end _ (c.test-m.ensures fold p k) _ (c.from_long-n.ensures ∙ c.one_if.ensures.0) _ (c.loop-at.invariant.1 fold p k),
     )

@@ -17,14 +17,14 @@ overflow_add-n c =
 
 pub overflow_add-at : goal.overflow_add-at
 overflow_add-at c =
-    omega (arith, line_inside _ _ _ c.loop-at-test.true c.line_end-end.ensures)
+    omega (arith, line_inside _ _ _ c.loop-at-test.true c.place_of-end.ensures)
 
 pub loop-at-smaller : goal.loop-at-smaller
 loop-at-smaller c = search (rules, line_inside)
 
 pub loop-at-preserved : goal.loop-at-preserved
 loop-at-preserved c = (
-  counting_next _ _ _ _ c.loop-at-test.true c.line_end-end.ensures _ c.read_and_test-m.ensures.value _ (c.from_long-n.ensures ∙ c.one_if.ensures.0) _
+  counting_next _ _ _ _ c.loop-at-test.true c.place_of-end.ensures _ c.read_and_test-m.ensures.value _ (c.from_long-n.ensures ∙ c.one_if.ensures.0) _
       c.loop-at.invariant.0,
   c.read_and_test-m.ensures.sets_len.0,
   c.read_and_test-m.ensures.sets_len.1,

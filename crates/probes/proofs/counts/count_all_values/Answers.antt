@@ -1,6 +1,6 @@
 use borrow.Author.Rules.{rules}
 use Rattle.request.proofs.OneField.{name_order, name_inside, value_order, value_inside, value_short, value_room}
-use Rattle.request.proofs.Readings.{places_alone, index_room}
+use Rattle.request.proofs.Readings.{places_alone}
 use Rattle.probes.proofs.Placing.{fielding_first, fielding_end, fielding_next, fielding_room}
 use Rattle.probes.proofs.counts.count_all_values.Goals as goal
 
@@ -30,9 +30,6 @@ count_values-n-requires c = (search (rules, places_alone, value_room), search (p
 
 pub overflow_add-n : goal.overflow_add-n
 overflow_add-n c = search (rules, fielding_room)
-
-pub overflow_add-i : goal.overflow_add-i
-overflow_add-i c = search (rules, index_room)
 
 pub loop-i-preserved : goal.loop-i-preserved
 loop-i-preserved c = (search fielding_next, search rules, search rules)

@@ -1,7 +1,7 @@
 use mathlib.Core.Path.{refl, sym, ap, ◌∙◌}
 use mathlib.Core.Bool.{Bool, ◌&&◌}
 use Rattle.octets.proofs.Choosing.{picks_first, picks_second}
-use Rattle.pattern.proofs.edition1.lead_with.Goals as goal
+use Rattle.pattern.proofs.edition1.Marks.lead_with.Goals as goal
 
 pub returns-then-repeats-may_lead : goal.returns-then-repeats-may_lead
 returns-then-repeats-may_lead c =

@@ -1,6 +1,6 @@
 use Rattle.octets.proofs.Choosing.{picks_first, picks_second}
 use mathlib.Core.Path.{refl}
-use Rattle.pattern.proofs.edition1.before_at.Goals as goal
+use Rattle.pattern.proofs.edition1.Marks.before.Goals as goal
 
 pub returns-then-repeats : goal.returns-then-repeats
 returns-then-repeats c = picks_first _ _ _ _ c.if-repeats.true c.with_position.ensures
