@@ -10,15 +10,6 @@ use borrow.Author.Tests.{le-leb, lt-leb, leb-true}
 use Rattle.cells.specs.Inner.Out.{Out, good, bad, ◌>>=◌, ◌>>◌, must}
 use Rattle.cells.specs.Inner.Places.{whole, u8, u16, u32, byte, word, long, limited, counted, sized}
 use Rattle.cells.specs.Inner.Answers.{field_out}
-use Rattle.cells.specs.declared.Field.{Field}
-use Rattle.cells.specs.declared.Field.TheVariants.{Is, Refused}
-
--- what a callee's answer says of the reader that it ensures
-pub is : {r : Field} {o : Out ℕ} {v : ℕ} → field_out r ≡ o → r ≡ Is v → o ≡ good v
-is e g = sym e ∙ ap field_out g
-
-pub refused : {r : Field} {o : Out ℕ} {n p : ℕ} → field_out r ≡ o → r ≡ Refused n p → o ≡ bad n p
-refused e g = sym e ∙ ap field_out g
 
 pub whole_yes : (s : List ℕ) (at k : ℕ) → at + k ≤ length s → whole s at k ≡ good tt
 unfolding whole
@@ -127,4 +118,4 @@ module _ (s : List ℕ) (at : ℕ) where
   unfolding sized
   sized_bad n p e = rw e
 
-pub ruleset readers = (is, refused, u8_yes, u8_no, u16_yes, u16_no, limited_yes, limited_over, limited_bad, counted_yes, counted_over, counted_bad, sized_yes, sized_cut, sized_bad)
+pub ruleset readers = (u8_yes, u8_no, u16_yes, u16_no, limited_yes, limited_over, limited_bad, counted_yes, counted_over, counted_bad, sized_yes, sized_cut, sized_bad)

@@ -5,7 +5,6 @@ use native.Mathlib.Nat.{add-sub_cancel_left, le_of_suc-le-suc, not-suc-le-zero}
 use mathlib.Core.Path.{◌≡◌, refl, sym, ap, ap₂, ◌∙◌}
 use mathlib.Core.Bool.{Bool, true, false, not, ◌||◌}
 use mathlib.Core.List.{List, [], ◌∷◌, map}
-use lib.Bits.{bit_and, bit_or}
 use lib.ListN.{length, get_or, take, drop, set, length-map, length-set}
 use lib.Dec.{eqb}
 use lib.Seq.{length-take-le, get_or-take, get_or-set_same, get_or-set_other}
@@ -15,79 +14,62 @@ use Rattle.octets.specs.Lists.{pick, empty}
 use Rattle.octets.specs.Bytes.{token}
 use Rattle.basic.specs.Inner.Judged.{is_pattern}
 use Rattle.cells.specs.Inner.Out.{Out, good, bad}
-use Rattle.cells.specs.Inner.Places.{u16, word, text_at, texts, usable, use_bits, uses_of, named, named_or_absent, exactly}
-use Rattle.cells.specs.Inner.Answers.{Table, Known}
-use Rattle.cells.proofs.Laws.{is, refused}
+use Rattle.cells.specs.Inner.Places.{u16, word, text_at, texts, usable, uses_of, named, named_or_absent, exactly}
+use Rattle.cells.specs.Inner.Answers.{Table, Known, no_use}
+use Rattle.cells.specs.declared.Suits.{Suits}
+use Rattle.std.proofs.Common.{◌⊎◌, inl, inr}
+
 
 pub text_is : (s : List ℕ) (o n : ℕ) → n ≡ word s o → take (o + 2 + n - (o + 2)) (drop (o + 2) s) ≡ text_at s o
 text_is s o n e = rw (e, add-sub_cancel_left)
 
 -- ---- what a string may be used for
 
-none : (t : List ℕ) → eqb (length t) 0 ≡ empty t
+none : (t : List ℕ) → not (eqb (length t) 0) ≡ not (empty t)
 none [] = refl
-none (b ∷ t) = ne_eqb (suc (length t)) 0 (λ e. omega arith)
+none (b ∷ t) = ap not (ne_eqb (suc (length t)) 0 (λ e. omega arith))
 
-pub uses_made : (t : List ℕ) (x y z : ℕ) (b c : Bool) → x ≡ pick (not (eqb (length t) 0)) 1 0 → b ≡ token t → y ≡ pick b 2 0 → c ≡ is_pattern t → z ≡ pick c 4 0
-    → bit_or (bit_or x y) z ≡ uses_of t
+pub uses_made : (t : List ℕ) (b c : Bool) → b ≡ token t → c ≡ is_pattern t → ◌≡◌ {A = Suits} (record { server = not (eqb (length t) 0); method = b; pattern = c }) (uses_of t)
 unfolding uses_of
-uses_made t x y z b c ex eb ey ec ez =
-    ap₂ bit_or (ap₂ bit_or (ex ∙ ap (λ (e : Bool). pick (not e) 1 0) (none t)) (ey ∙ ap (λ (e : Bool). pick e 2 0) eb))
-    (ez ∙ ap (λ (e : Bool). pick e 4 0) ec)
+uses_made t b c eb ec = rw (none t, eb, ec) refl
 
-each_bit : (a b c : Bool)
-    → (not (eqb (bit_and (use_bits a b c) 1) 0) ≡ a) × (not (eqb (bit_and (use_bits a b c) 2) 0) ≡ b) × (not (eqb (bit_and (use_bits a b c) 4) 0) ≡ c)
-each_bit true true true = (refl, refl, refl)
-each_bit true true false = (refl, refl, refl)
-each_bit true false true = (refl, refl, refl)
-each_bit true false false = (refl, refl, refl)
-each_bit false true true = (refl, refl, refl)
-each_bit false true false = (refl, refl, refl)
-each_bit false false true = (refl, refl, refl)
-each_bit false false false = (refl, refl, refl)
+module _ (p : ℕ) (t : List ℕ) where
+  pub use_token : p ≡ 1 → token t ≡ usable p t
+  unfolding usable
+  use_token q = rw q refl
 
--- kinds 2 and 4 name patterns
-pub usable_pattern : (p : ℕ) (t : List ℕ) → (p ≡ 1 → ⊥) → (eqb p 2 || eqb p 4) ≡ true → is_pattern t ≡ usable p t
-unfolding usable
-usable_pattern p t e1 q = rw (ne_eqb p 1 e1, q) refl
-
-module _ (p u : ℕ) (t : List ℕ) (e : u ≡ uses_of t) where
-  pub use_token : p ≡ 1 → not (eqb (bit_and u 2) 0) ≡ usable p t
-  unfolding usable uses_of
-  use_token q = ap (λ (n : ℕ). not (eqb (bit_and n 2) 0)) e ∙ (each_bit (not (empty t)) (token t) (is_pattern t)).1 ∙ sym (ap (λ (k : ℕ). usable k t) q)
-
-  pub use_pattern : (p ≡ 1 → ⊥) → (eqb p 2 || eqb p 4) ≡ true → not (eqb (bit_and u 4) 0) ≡ usable p t
-  unfolding usable uses_of
-  use_pattern e1 q = ap (λ (n : ℕ). not (eqb (bit_and n 4) 0)) e ∙ (each_bit (not (empty t)) (token t) (is_pattern t)).2 ∙ usable_pattern p t e1 q
+  pub use_pattern : (p ≡ 2) ⊎ (p ≡ 4) → is_pattern t ≡ usable p t
+  unfolding usable
+  use_pattern (inl q) = rw q refl
+  use_pattern (inr q) = rw q refl
 
   pub use_any : p ≡ 5 → true ≡ usable p t
   unfolding usable
-  use_any q = sym (ap (λ (k : ℕ). usable k t) q)
+  use_any q = rw q refl
 
-  pub use_other : (p ≡ 1 → ⊥) → (eqb p 2 || eqb p 4) ≡ false → (p ≡ 5 → ⊥) → not (eqb (bit_and u 1) 0) ≡ usable p t
-  unfolding usable uses_of
-  use_other e1 q e5 =
-      ap (λ (n : ℕ). not (eqb (bit_and n 1) 0)) e ∙ (each_bit (not (empty t)) (token t) (is_pattern t)).0 ∙ rw (ne_eqb p 1 e1, q, ne_eqb p 5 e5) refl
+  pub use_other : (p ≡ 1 → ⊥) → ((p ≡ 2) ⊎ (p ≡ 4) → ⊥) → (p ≡ 5 → ⊥) → not (empty t) ≡ usable p t
+  unfolding usable
+  use_other e1 e e5 = rw (ne_eqb p 1 e1, ne_eqb p 2 (λ h. e (inl h)), ne_eqb p 4 (λ h. e (inr h)), ne_eqb p 5 e5) refl
 
 -- the strings below k are judged
-pub record Told (s : List ℕ) (n : ℕ) (table uses : List ℕ) (k : ℕ) : Type 0 where
+pub record Told (s : List ℕ) (n : ℕ) (table : List ℕ) (uses : List Suits) (k : ℕ) : Type 0 where
   pub count : k ≤ n
   pub each : length uses ≡ 1024
-  pub tells : (i : ℕ) → i < k → get_or uses i 0 ≡ uses_of (text_at s (get_or table i 0))
+  pub tells : (i : ℕ) → i < k → get_or uses i no_use ≡ uses_of (text_at s (get_or table i 0))
 
-pub told_none : (s : List ℕ) (n : ℕ) (table uses : List ℕ) → length uses ≡ 1024 → Told s n table uses 0
-told_none s n table uses h = record { count = omega arith; each = h; tells = below_none (λ i. get_or uses i 0 ≡ uses_of (text_at s (get_or table i 0))) }
+pub told_none : (s : List ℕ) (n : ℕ) (table : List ℕ) (uses : List Suits) → length uses ≡ 1024 → Told s n table uses 0
+told_none s n table uses h = record { count = omega arith; each = h; tells = below_none (λ i. get_or uses i no_use ≡ uses_of (text_at s (get_or table i 0))) }
 
-module _ (s : List ℕ) (n : ℕ) (table uses : List ℕ) (k : ℕ) (tb : Table s n table) (d : Told s n table uses k) where
-  pub told_more : (o : ℕ) (t : List ℕ) (v : ℕ) → k < n → o ≡ get_or table k 0 → t ≡ text_at s o → v ≡ uses_of t → Told s n table (set uses k v) (k + 1)
+module _ (s : List ℕ) (n : ℕ) (table : List ℕ) (uses : List Suits) (k : ℕ) (tb : Table s n table) (d : Told s n table uses k) where
+  pub told_more : (o : ℕ) (t : List ℕ) (v : Suits) → k < n → o ≡ get_or table k 0 → t ≡ text_at s o → v ≡ uses_of t → Told s n table (set uses k v) (k + 1)
   told_more o t v h eo et ev =
       let room : k < length uses = omega (arith, tb.count, d.each) in
       record {
         count = omega arith;
         each = length-set uses k v ∙ d.each;
-        tells = below_more (λ i. get_or (set uses k v) i 0 ≡ uses_of (text_at s (get_or table i 0))) k
-            (λ i l. get_or-set_other uses k i v 0 (omega arith) ∙ d.tells i l)
-            (get_or-set_same uses k v 0 room ∙ ev ∙ ap uses_of (et ∙ ap (text_at s) eo));
+        tells = below_more (λ i. get_or (set uses k v) i no_use ≡ uses_of (text_at s (get_or table i 0))) k
+            (λ i l. get_or-set_other uses k i v no_use (omega arith) ∙ d.tells i l)
+            (get_or-set_same uses k v no_use room ∙ ev ∙ ap uses_of (et ∙ ap (text_at s) eo));
       }
 
   pub told_all : n ≤ k → Known s n table uses
@@ -120,7 +102,7 @@ module _ (s : List ℕ) (n : ℕ) (table : List ℕ) (tb : Table s n table) wher
     named_out i e h = rw (e, texts_length, le-ltb i n h)
 
     -- v: what the string may be used for, b: whether it may be used so
-    module _ (uses : List ℕ) (kn : Known s n table uses) (i v : ℕ) (b : Bool) (e : u16 s at ≡ good i) (h : i < n) (ev : v ≡ get_or uses i 0)
+    module _ (uses : List Suits) (kn : Known s n table uses) (i : ℕ) (v : Suits) (b : Bool) (e : u16 s at ≡ good i) (h : i < n) (ev : v ≡ get_or uses i no_use)
         (eb : (t : List ℕ) → v ≡ uses_of t → b ≡ usable p t) where
       judged : usable p (get_or (texts s n table) i []) ≡ b
       judged = ap (usable p) (texts_at i h) ∙ sym (eb (text_at s (get_or table i 0)) (ev ∙ kn.tells i h))
@@ -162,6 +144,6 @@ module _ (s : List ℕ) (strs : List (List ℕ)) (k at : ℕ) where
 pub inside_at : (s : List ℕ) (n : ℕ) (table : List ℕ) (i o : ℕ) → Table s n table → i < n → o ≡ get_or table i 0 → o + 2 + word s o ≤ length s
 inside_at s n table i o tb h e = rw e (tb.inside i h)
 
-pub ruleset uses = (is, refused, named_bad, named_out, exactly_yes, exactly_no, exactly_bad)
+pub ruleset uses = (named_bad, named_out, exactly_yes, exactly_no, exactly_bad)
 
-pub ruleset or_absent = (is, refused, absent_is, absent_bad)
+pub ruleset or_absent = (absent_is, absent_bad)

@@ -1,14 +1,19 @@
+use Rattle.std.proofs.Common.{rules, arith}
+use Rattle.cells.specs.Inner.Places.{uses_of}
 use Rattle.cells.proofs.Uses.{use_token, use_pattern, use_any, use_other}
 use Rattle.cells.proofs.string_table.fits_use.Goals as goal
 
-pub returns-then-purpose-eq1 : goal.returns-then-purpose-eq1
-returns-then-purpose-eq1 c = search use_token
+pub returns-in-1 : goal.returns-in-1
+unfolding uses_of
+returns-in-1 c = λ t e. rw e (search use_token)
 
-pub returns-then-purpose : goal.returns-then-purpose
-returns-then-purpose c = search use_pattern
+pub returns-in-2 : goal.returns-in-2
+unfolding uses_of
+returns-in-2 c = λ t e. rw e (search use_pattern)
 
-pub returns-then-purpose-eq5 : goal.returns-then-purpose-eq5
-returns-then-purpose-eq5 c = search use_any
+pub returns-in-5 : goal.returns-in-5
+returns-in-5 c = λ t e. search use_any
 
-pub returns : goal.returns
-returns c = search use_other
+pub returns-in_default : goal.returns-in_default
+unfolding uses_of
+returns-in_default c = λ t e. rw e (search use_other)
