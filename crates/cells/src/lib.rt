@@ -5,7 +5,7 @@ mod fields;
 mod string_table;
 
 pub use crate::fields::{byte_at, count_at, exactly_at, long_at, must, number, priority, up_to, word_at};
-pub use crate::string_table::{index_at, index_or_absent, judge_strings, strings, text};
+pub use crate::string_table::{StringTable, judge_strings, strings, text};
 
 // Why an image is refused. Each has the number of the paper.
 #[derive(Clone, Copy)]

@@ -82,39 +82,37 @@ fn fits_use(uses: Suits, purpose: usize) -> bool
     }
 }
 
-// A string index in the table, of a string that may be used so. The table is named for the promise alone.
-pub fn index_at(
-    s: &[u8],
-    table: &[u16; 1024],
-    uses: &[Suits; 1024],
-    n: usize,
-    purpose: usize,
-    at: usize,
-) -> Result<usize, Refusal>
-    requires { (at ≤ 200000) × Known s.now n table.now uses.now }
-    ensures { field_out result ≡ named s.now (texts s.now n table.now) purpose at }
-{
-    let i = word_at(s, at)?;
-    must(i < n, Fault::OutOfRange, at)?;
-    must(fits_use(uses[i], purpose), Fault::WrongString, at)?;
-    Ok(i)
+// The strings of an image: where each lies, and what it suits. The table is named for the promise alone.
+#[derive(Clone, Copy)]
+pub struct StringTable<'a> {
+    pub image: &'a [u8],
+    pub table: &'a [u16; 1024],
+    pub suits: &'a [Suits; 1024],
+    pub count: usize,
+    ghost known: { Known image.now count table.now suits.now },
 }
 
-// A string index of a string that may be used so, or 65535.
-pub fn index_or_absent(
-    s: &[u8],
-    table: &[u16; 1024],
-    uses: &[Suits; 1024],
-    n: usize,
-    purpose: usize,
-    at: usize,
-) -> Result<usize, Refusal>
-    requires { (at ≤ 200000) × Known s.now n table.now uses.now }
-    ensures { field_out result ≡ named_or_absent s.now (texts s.now n table.now) purpose at }
-{
-    let i = word_at(s, at)?;
-    if i == 65535 {
-        return Ok(i);
+impl<'a> StringTable<'a> {
+    // A string index in the table, of a string that may be used so.
+    pub fn index_at(&self, purpose: usize, at: usize) -> Result<usize, Refusal>
+        requires { at ≤ 200000 }
+        ensures { let t = self.now in field_out result ≡ named t.image.now (texts t.image.now t.count t.table.now) purpose at }
+    {
+        let i = word_at(self.image, at)?;
+        must(i < self.count, Fault::OutOfRange, at)?;
+        must(fits_use(self.suits[i], purpose), Fault::WrongString, at)?;
+        Ok(i)
     }
-    index_at(s, table, uses, n, purpose, at)
+
+    // A string index of a string that may be used so, or 65535.
+    pub fn index_or_absent(&self, purpose: usize, at: usize) -> Result<usize, Refusal>
+        requires { at ≤ 200000 }
+        ensures { let t = self.now in field_out result ≡ named_or_absent t.image.now (texts t.image.now t.count t.table.now) purpose at }
+    {
+        let i = word_at(self.image, at)?;
+        if i == 65535 {
+            return Ok(i);
+        }
+        self.index_at(purpose, at)
+    }
 }
