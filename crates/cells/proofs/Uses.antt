@@ -2,19 +2,18 @@
 use Prim.Native.Nat.{ℕ, zero, suc, ◌+◌, ◌-◌, ◌≤◌, ◌<◌}
 use native.Mathlib.Omega.{arith}
 use native.Mathlib.Nat.{add-sub_cancel_left, le_of_suc-le-suc, not-suc-le-zero}
-use mathlib.Core.Path.{◌≡◌, refl, sym, ap, ap₂, ◌∙◌}
-use mathlib.Core.Bool.{Bool, true, false, not, ◌||◌}
+use mathlib.Core.Path.{◌≡◌, refl, ap, ◌∙◌}
+use mathlib.Core.Bool.{Bool, true, not, ◌||◌}
 use mathlib.Core.List.{List, [], ◌∷◌, map}
 use lib.ListN.{length, get_or, take, drop, set, length-map, length-set}
 use lib.Dec.{eqb}
-use lib.Seq.{length-take-le, get_or-take, get_or-set_same, get_or-set_other}
+use lib.Seq.{length-take-le, get_or-set_same, get_or-set_other}
 use borrow.Author.Count.{below_none, below_more}
-use borrow.Author.Tests.{eq-eqb, ne_eqb, lt-ltb, le-ltb}
-use Rattle.octets.specs.Lists.{pick, empty}
+use borrow.Author.Tests.{ne_eqb}
+use Rattle.octets.specs.Lists.{empty}
 use Rattle.octets.specs.Bytes.{token}
 use Rattle.basic.specs.Inner.Judged.{is_pattern}
-use Rattle.cells.specs.Inner.Out.{Out, good, bad}
-use Rattle.cells.specs.Inner.Places.{u16, word, text_at, texts, usable, uses_of, named, named_or_absent, exactly}
+use Rattle.cells.specs.Inner.Places.{word, text_at, texts, usable, uses_of}
 use Rattle.cells.specs.Inner.Answers.{Table, Known, no_use}
 use Rattle.cells.specs.declared.Suits.{Suits}
 use Rattle.std.proofs.Common.{◌⊎◌, inl, inr}
@@ -25,13 +24,19 @@ text_is s o n e = rw (e, add-sub_cancel_left)
 
 -- ---- what a string may be used for
 
-none : (t : List ℕ) → not (eqb (length t) 0) ≡ not (empty t)
+none : (t : List ℕ) → eqb (length t) 0 ≡ empty t
 none [] = refl
-none (b ∷ t) = ap not (ne_eqb (suc (length t)) 0 (λ e. omega arith))
+none (b ∷ t) = ne_eqb (suc (length t)) 0 (λ e. omega arith)
 
-pub uses_made : (t : List ℕ) (b c : Bool) → b ≡ token t → c ≡ is_pattern t → ◌≡◌ {A = Suits} (record { server = not (eqb (length t) 0); method = b; pattern = c }) (uses_of t)
+pub uses_made : (t : List ℕ) (a b c : Bool) → a ≡ eqb (length t) 0 → b ≡ token t → c ≡ is_pattern t
+    → ◌≡◌ {A = Suits} (record { server = not a; method = b; pattern = c }) (uses_of t)
 unfolding uses_of
-uses_made t b c eb ec = rw (none t, eb, ec) refl
+uses_made t a b c ea eb ec = rw (ea, none t, eb, ec) refl
+
+-- kinds 2 and 4 name patterns
+pub usable_pattern : (p : ℕ) (t : List ℕ) → (p ≡ 1 → ⊥) → (eqb p 2 || eqb p 4) ≡ true → is_pattern t ≡ usable p t
+unfolding usable
+usable_pattern p t e1 q = rw (ne_eqb p 1 e1, q) refl
 
 module _ (p : ℕ) (t : List ℕ) where
   pub use_token : p ≡ 1 → token t ≡ usable p t
@@ -89,61 +94,5 @@ module _ (s : List ℕ) (n : ℕ) (table : List ℕ) (tb : Table s n table) wher
   pub texts_length : length (texts s n table) ≡ n
   texts_length = length-map (take n table) (text_at s) ∙ taken
 
-  pub texts_at : (i : ℕ) → i < n → get_or (texts s n table) i [] ≡ text_at s (get_or table i 0)
-  texts_at i h = get_or_map_in (text_at s) (take n table) i 0 [] (omega (arith, taken)) ∙ ap (text_at s) (get_or-take n table i 0 h)
-
-  module _ (p at : ℕ) where
-    pub named_bad : (m q : ℕ) → u16 s at ≡ bad m q → bad m q ≡ named s (texts s n table) p at
-    unfolding named
-    named_bad m q e = rw e
-
-    pub named_out : (i : ℕ) → u16 s at ≡ good i → n ≤ i → bad 4 at ≡ named s (texts s n table) p at
-    unfolding named
-    named_out i e h = rw (e, texts_length, le-ltb i n h)
-
-    -- v: what the string may be used for, b: whether it may be used so
-    module _ (uses : List Suits) (kn : Known s n table uses) (i : ℕ) (v : Suits) (b : Bool) (e : u16 s at ≡ good i) (h : i < n) (ev : v ≡ get_or uses i no_use)
-        (eb : (t : List ℕ) → v ≡ uses_of t → b ≡ usable p t) where
-      judged : usable p (get_or (texts s n table) i []) ≡ b
-      judged = ap (usable p) (texts_at i h) ∙ sym (eb (text_at s (get_or table i 0)) (ev ∙ kn.tells i h))
-
-      pub named_wrong : b ≡ false → bad 5 at ≡ named s (texts s n table) p at
-      unfolding named
-      named_wrong f = rw (e, texts_length, lt-ltb i n h, judged, f)
-
-      pub named_yes : b ≡ true → good i ≡ named s (texts s n table) p at
-      unfolding named
-      named_yes f = rw (e, texts_length, lt-ltb i n h, judged, f)
-
-module _ (s : List ℕ) (v at : ℕ) where
-  pub exactly_yes : (i : ℕ) → u16 s at ≡ good i → i ≡ v → good i ≡ exactly s v at
-  unfolding exactly
-  exactly_yes i e h = rw (e, eq-eqb i v h)
-
-  pub exactly_no : (i : ℕ) → u16 s at ≡ good i → (i ≡ v → ⊥) → bad 4 at ≡ exactly s v at
-  unfolding exactly
-  exactly_no i e h = rw (e, ne_eqb i v h)
-
-  pub exactly_bad : (m q : ℕ) → u16 s at ≡ bad m q → bad m q ≡ exactly s v at
-  unfolding exactly
-  exactly_bad m q e = rw e
-
-module _ (s : List ℕ) (strs : List (List ℕ)) (k at : ℕ) where
-  pub absent_is : (i : ℕ) → u16 s at ≡ good i → i ≡ 65535 → good i ≡ named_or_absent s strs k at
-  unfolding named_or_absent
-  absent_is i e h = rw (e, eq-eqb i 65535 h)
-
-  pub absent_not : (i : ℕ) (o : Out ℕ) → u16 s at ≡ good i → (i ≡ 65535 → ⊥) → o ≡ named s strs k at → o ≡ named_or_absent s strs k at
-  unfolding named_or_absent named
-  absent_not i o e h n = n ∙ rw (e, ne_eqb i 65535 h)
-
-  pub absent_bad : (m q : ℕ) → u16 s at ≡ bad m q → bad m q ≡ named_or_absent s strs k at
-  unfolding named_or_absent
-  absent_bad m q e = rw e
-
 pub inside_at : (s : List ℕ) (n : ℕ) (table : List ℕ) (i o : ℕ) → Table s n table → i < n → o ≡ get_or table i 0 → o + 2 + word s o ≤ length s
 inside_at s n table i o tb h e = rw e (tb.inside i h)
-
-pub ruleset uses = (named_bad, named_out, exactly_yes, exactly_no, exactly_bad)
-
-pub ruleset or_absent = (absent_is, absent_bad)

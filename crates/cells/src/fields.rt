@@ -8,14 +8,13 @@ ghost use Rattle.cells.specs.Inner.Places.{whole as is_whole, u8, u16, u32, limi
 ghost use Rattle.cells.specs.Inner.Answers.{field_out, number_of};
 
 use crate::{Fault, Refusal};
-use octets::from_byte;
 
 // Two bytes of the image, as a number.
 pub fn number(s: &[u8], at: usize) -> usize
     requires { at + 2 ≤ length s.now }
     ensures { (result ≡ word s.now at) × (result < 65536) }
 {
-    from_byte(s[at]) * 256 + from_byte(s[at + 1])
+    usize::from(u16::from_be_bytes([s[at], s[at + 1]]))
 }
 
 // Refused with a fault at a place, unless it holds.
@@ -41,7 +40,7 @@ pub fn byte_at(s: &[u8], at: usize) -> Result<usize, Refusal>
     ensures { field_out result ≡ u8 s.now at }
 {
     must(at < s.len(), Fault::TooShort, s.len())?;
-    Ok(from_byte(s[at]))
+    Ok(usize::from(s[at]))
 }
 
 pub fn word_at(s: &[u8], at: usize) -> Result<usize, Refusal>
@@ -86,7 +85,7 @@ pub fn priority(s: &[u8], at: usize) -> usize
     requires { at + 4 ≤ length s.now }
     ensures { (result ≡ long s.now at) × (result < 4294967296) }
 {
-    number(s, at) * 65536 + number(s, at + 2)
+    u32::from_be_bytes([s[at], s[at + 1], s[at + 2], s[at + 3]]) as usize
 }
 
 pub fn long_at(s: &[u8], at: usize) -> Result<usize, Refusal>

@@ -52,7 +52,7 @@ fn uses_of(classes: &[u8; 256], t: &[u8]) -> Suits
     ensures { result ≡ uses_of t.now }
 {
     Suits {
-        server: t.len() != 0,
+        server: !t.is_empty(),
         method: octets::is_token(classes, t),
         pattern: basic::is_pattern(t),
     }
@@ -65,7 +65,7 @@ pub fn judge_strings(s: &[u8], table: &[u16; 1024], n: usize, uses: &mut [Suits;
 {
     let classes = octets::class_table();
     for k in 0..n {
-        let t = text(s, octets::from_word(table[k]));
+        let t = text(s, usize::from(table[k]));
         uses[k] = uses_of(&classes, t);
     }
 }

@@ -1,4 +1,3 @@
-use Rattle.std.proofs.Common.{rules, arith}
 use Rattle.cells.specs.Inner.Places.{uses_of}
 use Rattle.cells.proofs.Uses.{use_token, use_pattern, use_any, use_other}
 use Rattle.cells.proofs.string_table.fits_use.Goals as goal

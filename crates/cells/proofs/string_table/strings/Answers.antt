@@ -1,6 +1,5 @@
-use native.Mathlib.Omega.{arith}
 use Rattle.std.proofs.lemmas.Result.{err_from_is_err_and}
-use Rattle.cells.proofs.Texts.{head_first, head_more, head_bad, head_end, head_filled, sized_inv}
+use Rattle.cells.proofs.Texts.{head_first, head_more, head_bad, head_end, head_filled}
 use Rattle.cells.proofs.string_table.strings.Goals as goal
 
 pub loop-k-init : goal.loop-k-init
