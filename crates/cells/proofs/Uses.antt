@@ -16,8 +16,6 @@ use Rattle.basic.specs.Inner.Judged.{is_pattern}
 use Rattle.cells.specs.Inner.Places.{word, text_at, texts, usable, uses_of}
 use Rattle.cells.specs.Inner.Answers.{Table, Known, no_use}
 use Rattle.cells.specs.declared.Suits.{Suits}
-use Rattle.std.proofs.Common.{◌⊎◌, inl, inr}
-
 
 pub text_is : (s : List ℕ) (o n : ℕ) → n ≡ word s o → take (o + 2 + n - (o + 2)) (drop (o + 2) s) ≡ text_at s o
 text_is s o n e = rw (e, add-sub_cancel_left)
@@ -37,24 +35,6 @@ uses_made t a b c ea eb ec = rw (ea, none t, eb, ec) refl
 pub usable_pattern : (p : ℕ) (t : List ℕ) → (p ≡ 1 → ⊥) → (eqb p 2 || eqb p 4) ≡ true → is_pattern t ≡ usable p t
 unfolding usable
 usable_pattern p t e1 q = rw (ne_eqb p 1 e1, q) refl
-
-module _ (p : ℕ) (t : List ℕ) where
-  pub use_token : p ≡ 1 → token t ≡ usable p t
-  unfolding usable
-  use_token q = rw q refl
-
-  pub use_pattern : (p ≡ 2) ⊎ (p ≡ 4) → is_pattern t ≡ usable p t
-  unfolding usable
-  use_pattern (inl q) = rw q refl
-  use_pattern (inr q) = rw q refl
-
-  pub use_any : p ≡ 5 → true ≡ usable p t
-  unfolding usable
-  use_any q = rw q refl
-
-  pub use_other : (p ≡ 1 → ⊥) → ((p ≡ 2) ⊎ (p ≡ 4) → ⊥) → (p ≡ 5 → ⊥) → not (empty t) ≡ usable p t
-  unfolding usable
-  use_other e1 e e5 = rw (ne_eqb p 1 e1, ne_eqb p 2 (λ h. e (inl h)), ne_eqb p 4 (λ h. e (inr h)), ne_eqb p 5 e5) refl
 
 -- the strings below k are judged
 pub record Told (s : List ℕ) (n : ℕ) (table : List ℕ) (uses : List Suits) (k : ℕ) : Type 0 where

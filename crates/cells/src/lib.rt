@@ -4,7 +4,9 @@
 mod fields;
 mod string_table;
 
-pub use crate::fields::{byte_at, count_at, exactly_at, long_at, must, number, priority, up_to, word_at};
+pub use crate::fields::{
+    byte_at, count_at, exactly_at, long_at, must, number, priority, up_to, word_at,
+};
 pub use crate::string_table::{StringTable, judge_strings, strings, text};
 
 // Why an image is refused. Each has the number of the paper.

@@ -7,8 +7,8 @@ ghost use Rattle.octets.specs.Lists.{pick};
 ghost use Rattle.cells.specs.Inner.Places.{sized, named, named_or_absent, usable, uses_of, word, text_at, texts};
 ghost use Rattle.cells.specs.Inner.Answers.{field_out, Tabled, Filled, Table, Known};
 
-use crate::{Fault, Refusal, Suits};
 use crate::fields::{count_at, must, number, whole, word_at};
+use crate::{Fault, Refusal, Suits};
 
 // The length of the string at `at`, which lies whole in the image.
 fn sized_at(s: &[u8], at: usize) -> Result<usize, Refusal>
@@ -71,6 +71,7 @@ pub fn judge_strings(s: &[u8], table: &[u16; 1024], n: usize, uses: &mut [Suits;
 }
 
 // Whether a string may be used so: 0 RequestURI or server, 1 Method, 2 and 4 patterns, 5 service information.
+#[tactic(auto, unfolding(crate::specs::Inner::Places::usable, crate::specs::Inner::Places::uses_of))]
 fn fits_use(uses: Suits, purpose: usize) -> bool
     ensures { (t : List ℕ) → uses ≡ uses_of t → result ≡ usable purpose t }
 {
