@@ -50,6 +50,15 @@ pub must_inv : {B : Type 0} (t : Bool) (n p : ℕ) (r : Out B) (b : B) → (must
 must_inv true n p r b e = (refl, e)
 must_inv false n p r b e = bad_good e
 
+-- the same of a `must` alone
+pub must_passed : (t : Bool) (n p : ℕ) → good tt ≡ must t n p → t ≡ true
+must_passed true n p e = refl
+must_passed false n p e = bad_good (sym e)
+
+pub must_refused : (t : Bool) (n p m q : ℕ) → bad m q ≡ must t n p → (t ≡ false) × (m ≡ n) × (q ≡ p)
+must_refused true n p m q e = bad_good e
+must_refused false n p m q e = (refl, cc, cc)
+
 pub good_inj : {A : Type 0} {a b : A} → good a ≡ good b → a ≡ b
 good_inj e = cc
 

@@ -1,17 +1,16 @@
-use Rattle.entries.proofs.MemberLoop.{placed_first, placed_none, placed_many, placed_more, placed_end}
+use native.Mathlib.Omega.{arith}
+use mathlib.Core.Path.{ap, ◌∙◌}
+use Rattle.std.proofs.lemmas.Result.{err_from_is_err_and}
+use Rattle.entries.proofs.MemberLoop.{placed_first, placed_bad, placed_more, placed_end}
 use Rattle.entries.proofs.memberships.all_placed.Goals as goal
 
-pub loop-k-init : goal.loop-k-init
-loop-k-init c = placed_first _ _ _
-
-pub returns-then-c-lt1 : goal.returns-then-c-lt1
-returns-then-c-lt1 c = search placed_none
-
-pub returns-then-c-gt8 : goal.returns-then-c-gt8
-returns-then-c-gt8 c = search placed_many
+pub returns-in_err-must : goal.returns-in_err-must
+returns-in_err-must c =
+    let p = err_from_is_err_and c.from_residual.result c.from_residual.ensures.1 in
+    rw (p.1, p.2) (search (placed_bad, c.in_err-must.ensures))
 
 pub loop-k-preserved : goal.loop-k-preserved
-loop-k-preserved c = search placed_more
+loop-k-preserved c = search (placed_more, c.in_ok-must.ensures)
 
 pub returns : goal.returns
 returns c = search placed_end
