@@ -31,13 +31,7 @@ fn right_count(rows: usize, form: usize, first: usize, n: usize) -> bool
     1 <= n && n <= 32 && first <= rows && n <= rows - first
 }
 
-fn row_count(
-    s: &[u8],
-    rows: usize,
-    form: usize,
-    first: usize,
-    at: usize,
-) -> Result<usize, Refusal>
+fn row_count(s: &[u8], rows: usize, form: usize, first: usize, at: usize) -> Result<usize, Refusal>
     requires { at ≤ 200000 }
     ensures { field_out result ≡ row_count s.now rows form first at }
 {

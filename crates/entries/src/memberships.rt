@@ -9,16 +9,6 @@ ghost use Rattle.entries.specs.Inner.Answers.{member_out, Counted};
 use crate::Member;
 use cells::{Fault, Refusal, must, word_at};
 
-// Whether a membership comes after the last one, if there is one.
-fn comes_after(last: Option<Member>, m: Member) -> bool
-    ensures { result ≡ comes last m.row m.group }
-{
-    match last {
-        None => true,
-        Some(l) => l < m,
-    }
-}
-
 // The membership at `at`, which comes after the last one.
 fn member_at(s: &[u8], rows: usize, last: Option<Member>, at: usize) -> Result<Member, Refusal>
     requires { at ≤ 150000 }
@@ -28,7 +18,7 @@ fn member_at(s: &[u8], rows: usize, last: Option<Member>, at: usize) -> Result<M
     must(row < rows, Fault::OutOfRange, at)?;
     let group = word_at(s, at + 2)?;
     let m = Member { row, group };
-    must(comes_after(last, m), Fault::OutOfRange, at)?;
+    must(last.is_none_or(|l| l < m), Fault::OutOfRange, at)?;
     Ok(m)
 }
 

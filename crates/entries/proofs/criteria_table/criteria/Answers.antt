@@ -1,7 +1,7 @@
 use native.Mathlib.Omega.{arith}
 use mathlib.Core.Path.{ap, ◌∙◌, sym}
 use Rattle.std.proofs.lemmas.Result.{err_from_is_err_and}
-use Rattle.cells.specs.Inner.Out.{good, bad}
+use Rattle.cells.specs.Inner.Out.{good}
 use Rattle.cells.proofs.Laws.{u32_inv, must_refused, must_passed}
 use borrow.Author.Tests.{leb-true, leb-false}
 use Rattle.entries.proofs.CriteriaLoop.{earlier_none, earlier_not, earlier_found, earlier_all, crit_first, crit_end, crit_cut, crit_repeat, crit_bad, crit_more}

@@ -1,7 +1,5 @@
-use native.Mathlib.Omega.{arith}
-use mathlib.Core.Path.{ap, ◌∙◌}
 use Rattle.std.proofs.lemmas.Result.{err_from_is_err_and}
-use Rattle.entries.proofs.MemberLoop.{placed_first, placed_bad, placed_more, placed_end}
+use Rattle.entries.proofs.MemberLoop.{placed_bad, placed_more, placed_end}
 use Rattle.entries.proofs.memberships.all_placed.Goals as goal
 
 pub returns-in_err-must : goal.returns-in_err-must

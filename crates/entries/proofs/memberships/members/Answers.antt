@@ -1,5 +1,5 @@
 use Rattle.std.proofs.lemmas.Result.{err_from_is_err_and}
-use Rattle.entries.proofs.MemberLoop.{members_first, members_more, members_bad, members_end, in_table, room}
+use Rattle.entries.proofs.MemberLoop.{members_first, members_more, members_bad, members_end}
 use Rattle.entries.proofs.memberships.members.Goals as goal
 
 pub loop-k-init : goal.loop-k-init
