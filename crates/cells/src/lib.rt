@@ -1,6 +1,9 @@
 // Reads the cells of a profile image: numbers of one, two and four bytes, and the strings that they name.
 #![tactic(auto)]
 
+ghost use Rattle.std.specs.Prelude.{◌≡◌};
+ghost use Rattle.cells.specs.Inner.Answers.{number_of};
+
 mod fields;
 mod string_table;
 
@@ -20,6 +23,14 @@ pub enum Fault {
     RepeatedPriority = 6,
 }
 
+impl From<Fault> for u32 {
+    ghost from_gives = { λ fault number. number ≡ number_of fault };
+
+    fn from(fault: Fault) -> u32 {
+        fault as u32
+    }
+}
+
 // A refusal: the fault, and the place of its first byte.
 #[derive(Clone, Copy)]
 pub struct Refusal {
@@ -28,7 +39,7 @@ pub struct Refusal {
 }
 
 // What a string may be used for: as a RequestURI or a server, as a Method, as a pattern.
-#[derive(Clone, Copy)]
+#[derive(Clone, Copy, Default)]
 pub struct Suits {
     pub server: bool,
     pub method: bool,
