@@ -11,11 +11,17 @@ use Rattle.cells.specs.Inner.Out.{Out, good, bad, ◌>>=◌, ◌>>◌, must}
 use Rattle.cells.specs.Inner.Places.{whole, u8, u16, u32, byte, word, long, limited, counted, sized}
 use Rattle.cells.specs.Inner.Answers.{field_out}
 use Rattle.cells.specs.declared.Refusal.{Refusal}
-use Rattle.std.specs.Prelude.{Result, Ok}
+use Rattle.std.specs.Prelude.{Result, Ok, Err}
+use Rattle.std.specs.Result.{IsErrAnd}
+use Rattle.std.proofs.lemmas.Result.{err_from_is_err_and}
 
 -- what an answer says of the reader that it is ensured to be
 pub is : {A : Type 0} {r : Result A Refusal} {o : Out A} {v : A} → field_out r ≡ o → r ≡ Ok v → o ≡ good v
 is e g = sym e ∙ ap field_out g
+
+-- what the exit of a `?` returns
+pub exits : {A : Type 0} {r : Result A Refusal} {e : Refusal} → IsErrAnd r (λ y. y ≡ e) → r ≡ Err e
+exits {r = r} h = let p = err_from_is_err_and r h in p.1 ∙ ap Err p.2
 
 pub whole_yes : (s : List ℕ) (at k : ℕ) → at + k ≤ length s → whole s at k ≡ good tt
 unfolding whole

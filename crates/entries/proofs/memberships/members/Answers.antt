@@ -1,4 +1,4 @@
-use Rattle.std.proofs.lemmas.Result.{err_from_is_err_and}
+use Rattle.cells.proofs.Laws.{exits}
 use Rattle.entries.proofs.MemberLoop.{members_first, members_more, members_bad, members_end}
 use Rattle.entries.proofs.memberships.members.Goals as goal
 
@@ -7,8 +7,7 @@ loop-k-init c = search members_first
 
 pub returns-in_err-m : goal.returns-in_err-m
 returns-in_err-m c =
-    let p = err_from_is_err_and c.from_residual.result c.from_residual.ensures.1 in
-    rw (p.1, p.2) (search (members_bad, c.in_err-m.ensures))
+    rw (exits c.from_residual.ensures.1) (search (members_bad, c.in_err-m.ensures))
 
 pub loop-k-preserved : goal.loop-k-preserved
 loop-k-preserved c = search (members_more, c.in_ok-m.ensures)

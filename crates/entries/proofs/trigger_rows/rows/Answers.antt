@@ -1,4 +1,4 @@
-use Rattle.std.proofs.lemmas.Result.{err_from_is_err_and}
+use Rattle.cells.proofs.Laws.{exits}
 use Rattle.entries.proofs.RowLoop.{rows_first, rows_more, rows_bad, rows_end}
 use Rattle.entries.proofs.trigger_rows.rows.Goals as goal
 
@@ -7,8 +7,7 @@ loop-init c = rows_first _ _ _ _
 
 pub returns-in_err-at : goal.returns-in_err-at
 returns-in_err-at c =
-    let p = err_from_is_err_and c.from_residual.result c.from_residual.ensures.1 in
-    rw (p.1, p.2) (search (rows_bad, c.in_err-at.ensures))
+    rw (exits c.from_residual.ensures.1) (search (rows_bad, c.in_err-at.ensures))
 
 pub loop-preserved : goal.loop-preserved
 loop-preserved c = search (rows_more, c.in_ok-at.ensures)
