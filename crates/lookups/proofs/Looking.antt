@@ -1,25 +1,21 @@
 -- What check and the lookups answer, from what the judging of the image kept.
-use mathlib.Core.Bool.{Bool, true, false, ◌&&◌, true≢false}
 use mathlib.Core.Option.{Option, none, some}
 use mathlib.Core.Path.{◌≡◌, refl, sym, ap, ap₂, ◌∙◌, subst}
 use Prim.Native.Nat.{ℕ, ◌+◌, ◌*◌, ◌≤◌, ◌<◌, zero-le}
 use mathlib.Core.List.{List}
 use lib.ListN.{length, get_elem?}
-use lib.Dec.{eqb}
-use Rattle.octets.specs.Lists.{pick}
 use Rattle.octets.proofs.Options as options
 use Rattle.octets.proofs.Each.{each_at}
 use Rattle.profile.specs.Image as image
 use Rattle.profile.specs.Image.{Stored, Judged, accepted, refused}
 use Rattle.profile.specs.Judging.{judge}
-use Rattle.cells.specs.Inner.Places.{word}
 use Rattle.profile.specs.Inner.Decoded.{layout, strings, stored_in, string_of, criterion_with, criterion_from, profile_in}
 use Rattle.lookups.specs.Lookups.{checked, check, no_part, the_part, look_at, look_judged, its_server, its_information, server, information, part_of, Checks, Serves, Informs}
 use Rattle.lookups.specs.Inner.Looking.{Found}
 use Rattle.lookups.specs.declared.Checked.{Checked}
 use Rattle.entries.specs.declared.Criterion.{Criterion}
 use Rattle.entries.specs.Inner.Places.{criterion_numbers}
-use Rattle.std.specs.Prelude.{Result, Ok, Err}
+use Rattle.std.specs.Prelude.{Ok, Err}
 use borrow.Author.Tests.{eq-eqb, ne_eqb}
 use Rattle.profile.specs.Inner.Kept.{kept, judgement, Judges}
 use Rattle.profile.specs.declared.Layout.{Layout}
