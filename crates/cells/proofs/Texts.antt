@@ -9,7 +9,7 @@ use mathlib.Core.List.{List, [], ◌∷◌, ◌++◌, map-append, append_assoc, 
 use lib.ListN.{length, get_or, take, drop, set, length-set, take-append-drop}
 use lib.Dec.{leb}
 use borrow.Author.Tests.{leb-true}
-use Rattle.cells.specs.declared.Field.TheVariants.{Is}
+use Rattle.std.specs.Prelude.{Ok}
 use lib.Seq.{take-suc-set, get_or-set_same, get_or-set_other, drop-drop, drop-set-lt}
 use Rattle.cells.specs.Inner.Out.{good, bad, ◌>>◌}
 use Rattle.cells.specs.Inner.Places.{many, reading_strings, string, sized, counted, whole, word, text_at, texts, Inside, offsets, past}
@@ -64,8 +64,9 @@ module _ (s : List ℕ) (n : ℕ) (before table : List ℕ) (at k : ℕ) (hd : H
   texts_more : k < 1024 → texts s (k + 1) (set table k at) ≡ texts s k table ++ (text_at s at ∷ [])
   texts_more h = rw (add-one k, take-suc-set table k at (omega arith), map-append)
 
-  pub head_more : (v : ℕ) → length s ≤ 32768 → n ≤ 1024 → k < n → sized s at ≡ good v → Head s n before (set table k at) (at + 2 + v) (k + 1)
-  head_more v hl hn h e =
+  pub head_more : (v : ℕ) → length s ≤ 32768 → n ≤ 1024 → k < n → good v ≡ sized s at → Head s n before (set table k at) (at + 2 + v) (k + 1)
+  head_more v hl hn h r =
+      let e = sym r in
       let w = sized_inv s at v e in
       record {
         count = omega arith;
@@ -84,11 +85,11 @@ module _ (s : List ℕ) (n : ℕ) (before table : List ℕ) (at k : ℕ) (hd : H
         rest = drop-set-lt (k + 1) table k at (omega arith) ∙ drop_more k table before hd.rest;
       }
 
-  pub head_bad : (m p : ℕ) → k < n → sized s at ≡ bad m p → reading_strings s n 3 ≡ bad m p
+  pub head_bad : (m p : ℕ) → k < n → bad m p ≡ sized s at → reading_strings s n 3 ≡ bad m p
   unfolding string
-  head_bad m p h e = hd.so_far ∙ many_bad (λ _. string s) n k at (texts s k table) m p h (rw e)
+  head_bad m p h r = let e = sym r in hd.so_far ∙ many_bad (λ _. string s) n k at (texts s k table) m p h (rw e)
 
-  pub head_end : n ≤ k → Tabled (Is at) s n table
+  pub head_end : n ≤ k → Tabled (Ok at) s n table
   head_end h =
       let z : k ≡ n = omega arith in (
         hd.so_far ∙ many_end (λ _. string s) n k at (texts s k table) h ∙ ap (λ (j : ℕ). good (texts s j table, at)) z,
@@ -97,7 +98,7 @@ module _ (s : List ℕ) (n : ℕ) (before table : List ℕ) (at k : ℕ) (hd : H
         hd.long,
       )
 
-  pub head_filled : n ≤ k → Filled (Is at) s n before table
+  pub head_filled : n ≤ k → Filled (Ok at) s n before table
   unfolding offsets past
   head_filled h =
       let z : k ≡ n = omega arith in

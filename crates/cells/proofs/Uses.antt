@@ -2,22 +2,20 @@
 use Prim.Native.Nat.{ℕ, zero, suc, ◌+◌, ◌-◌, ◌≤◌, ◌<◌}
 use native.Mathlib.Omega.{arith}
 use native.Mathlib.Nat.{add-sub_cancel_left, le_of_suc-le-suc, not-suc-le-zero}
-use mathlib.Core.Path.{◌≡◌, refl, sym, ap, ap₂, ◌∙◌}
-use mathlib.Core.Bool.{Bool, true, false, not, ◌||◌}
+use mathlib.Core.Path.{◌≡◌, refl, ap, ◌∙◌}
+use mathlib.Core.Bool.{Bool, true, not, ◌||◌}
 use mathlib.Core.List.{List, [], ◌∷◌, map}
-use lib.Bits.{bit_and, bit_or}
 use lib.ListN.{length, get_or, take, drop, set, length-map, length-set}
 use lib.Dec.{eqb}
-use lib.Seq.{length-take-le, get_or-take, get_or-set_same, get_or-set_other}
+use lib.Seq.{length-take-le, get_or-set_same, get_or-set_other}
 use borrow.Author.Count.{below_none, below_more}
-use borrow.Author.Tests.{eq-eqb, ne_eqb, lt-ltb, le-ltb}
-use Rattle.octets.specs.Lists.{pick, empty}
+use borrow.Author.Tests.{ne_eqb}
+use Rattle.octets.specs.Lists.{empty}
 use Rattle.octets.specs.Bytes.{token}
 use Rattle.basic.specs.Inner.Judged.{is_pattern}
-use Rattle.cells.specs.Inner.Out.{Out, good, bad}
-use Rattle.cells.specs.Inner.Places.{u16, word, text_at, texts, usable, use_bits, uses_of, named, named_or_absent, exactly}
-use Rattle.cells.specs.Inner.Answers.{Table, Known}
-use Rattle.cells.proofs.Laws.{is, refused}
+use Rattle.cells.specs.Inner.Places.{word, text_at, texts, usable, uses_of}
+use Rattle.cells.specs.Inner.Answers.{Table, Known, no_use}
+use Rattle.cells.specs.declared.Suits.{Suits}
 
 pub text_is : (s : List ℕ) (o n : ℕ) → n ≡ word s o → take (o + 2 + n - (o + 2)) (drop (o + 2) s) ≡ text_at s o
 text_is s o n e = rw (e, add-sub_cancel_left)
@@ -28,66 +26,35 @@ none : (t : List ℕ) → eqb (length t) 0 ≡ empty t
 none [] = refl
 none (b ∷ t) = ne_eqb (suc (length t)) 0 (λ e. omega arith)
 
-pub uses_made : (t : List ℕ) (x y z : ℕ) (b c : Bool) → x ≡ pick (not (eqb (length t) 0)) 1 0 → b ≡ token t → y ≡ pick b 2 0 → c ≡ is_pattern t → z ≡ pick c 4 0
-    → bit_or (bit_or x y) z ≡ uses_of t
+pub uses_made : (t : List ℕ) (a b c : Bool) → a ≡ eqb (length t) 0 → b ≡ token t → c ≡ is_pattern t
+    → ◌≡◌ {A = Suits} (record { server = not a; method = b; pattern = c }) (uses_of t)
 unfolding uses_of
-uses_made t x y z b c ex eb ey ec ez =
-    ap₂ bit_or (ap₂ bit_or (ex ∙ ap (λ (e : Bool). pick (not e) 1 0) (none t)) (ey ∙ ap (λ (e : Bool). pick e 2 0) eb))
-    (ez ∙ ap (λ (e : Bool). pick e 4 0) ec)
-
-each_bit : (a b c : Bool)
-    → (not (eqb (bit_and (use_bits a b c) 1) 0) ≡ a) × (not (eqb (bit_and (use_bits a b c) 2) 0) ≡ b) × (not (eqb (bit_and (use_bits a b c) 4) 0) ≡ c)
-each_bit true true true = (refl, refl, refl)
-each_bit true true false = (refl, refl, refl)
-each_bit true false true = (refl, refl, refl)
-each_bit true false false = (refl, refl, refl)
-each_bit false true true = (refl, refl, refl)
-each_bit false true false = (refl, refl, refl)
-each_bit false false true = (refl, refl, refl)
-each_bit false false false = (refl, refl, refl)
+uses_made t a b c ea eb ec = rw (ea, none t, eb, ec) refl
 
 -- kinds 2 and 4 name patterns
 pub usable_pattern : (p : ℕ) (t : List ℕ) → (p ≡ 1 → ⊥) → (eqb p 2 || eqb p 4) ≡ true → is_pattern t ≡ usable p t
 unfolding usable
 usable_pattern p t e1 q = rw (ne_eqb p 1 e1, q) refl
 
-module _ (p u : ℕ) (t : List ℕ) (e : u ≡ uses_of t) where
-  pub use_token : p ≡ 1 → not (eqb (bit_and u 2) 0) ≡ usable p t
-  unfolding usable uses_of
-  use_token q = ap (λ (n : ℕ). not (eqb (bit_and n 2) 0)) e ∙ (each_bit (not (empty t)) (token t) (is_pattern t)).1 ∙ sym (ap (λ (k : ℕ). usable k t) q)
-
-  pub use_pattern : (p ≡ 1 → ⊥) → (eqb p 2 || eqb p 4) ≡ true → not (eqb (bit_and u 4) 0) ≡ usable p t
-  unfolding usable uses_of
-  use_pattern e1 q = ap (λ (n : ℕ). not (eqb (bit_and n 4) 0)) e ∙ (each_bit (not (empty t)) (token t) (is_pattern t)).2 ∙ usable_pattern p t e1 q
-
-  pub use_any : p ≡ 5 → true ≡ usable p t
-  unfolding usable
-  use_any q = sym (ap (λ (k : ℕ). usable k t) q)
-
-  pub use_other : (p ≡ 1 → ⊥) → (eqb p 2 || eqb p 4) ≡ false → (p ≡ 5 → ⊥) → not (eqb (bit_and u 1) 0) ≡ usable p t
-  unfolding usable uses_of
-  use_other e1 q e5 =
-      ap (λ (n : ℕ). not (eqb (bit_and n 1) 0)) e ∙ (each_bit (not (empty t)) (token t) (is_pattern t)).0 ∙ rw (ne_eqb p 1 e1, q, ne_eqb p 5 e5) refl
-
 -- the strings below k are judged
-pub record Told (s : List ℕ) (n : ℕ) (table uses : List ℕ) (k : ℕ) : Type 0 where
+pub record Told (s : List ℕ) (n : ℕ) (table : List ℕ) (uses : List Suits) (k : ℕ) : Type 0 where
   pub count : k ≤ n
   pub each : length uses ≡ 1024
-  pub tells : (i : ℕ) → i < k → get_or uses i 0 ≡ uses_of (text_at s (get_or table i 0))
+  pub tells : (i : ℕ) → i < k → get_or uses i no_use ≡ uses_of (text_at s (get_or table i 0))
 
-pub told_none : (s : List ℕ) (n : ℕ) (table uses : List ℕ) → length uses ≡ 1024 → Told s n table uses 0
-told_none s n table uses h = record { count = omega arith; each = h; tells = below_none (λ i. get_or uses i 0 ≡ uses_of (text_at s (get_or table i 0))) }
+pub told_none : (s : List ℕ) (n : ℕ) (table : List ℕ) (uses : List Suits) → length uses ≡ 1024 → Told s n table uses 0
+told_none s n table uses h = record { count = omega arith; each = h; tells = below_none (λ i. get_or uses i no_use ≡ uses_of (text_at s (get_or table i 0))) }
 
-module _ (s : List ℕ) (n : ℕ) (table uses : List ℕ) (k : ℕ) (tb : Table s n table) (d : Told s n table uses k) where
-  pub told_more : (o : ℕ) (t : List ℕ) (v : ℕ) → k < n → o ≡ get_or table k 0 → t ≡ text_at s o → v ≡ uses_of t → Told s n table (set uses k v) (k + 1)
+module _ (s : List ℕ) (n : ℕ) (table : List ℕ) (uses : List Suits) (k : ℕ) (tb : Table s n table) (d : Told s n table uses k) where
+  pub told_more : (o : ℕ) (t : List ℕ) (v : Suits) → k < n → o ≡ get_or table k 0 → t ≡ text_at s o → v ≡ uses_of t → Told s n table (set uses k v) (k + 1)
   told_more o t v h eo et ev =
       let room : k < length uses = omega (arith, tb.count, d.each) in
       record {
         count = omega arith;
         each = length-set uses k v ∙ d.each;
-        tells = below_more (λ i. get_or (set uses k v) i 0 ≡ uses_of (text_at s (get_or table i 0))) k
-            (λ i l. get_or-set_other uses k i v 0 (omega arith) ∙ d.tells i l)
-            (get_or-set_same uses k v 0 room ∙ ev ∙ ap uses_of (et ∙ ap (text_at s) eo));
+        tells = below_more (λ i. get_or (set uses k v) i no_use ≡ uses_of (text_at s (get_or table i 0))) k
+            (λ i l. get_or-set_other uses k i v no_use (omega arith) ∙ d.tells i l)
+            (get_or-set_same uses k v no_use room ∙ ev ∙ ap uses_of (et ∙ ap (text_at s) eo));
       }
 
   pub told_all : n ≤ k → Known s n table uses
@@ -107,61 +74,5 @@ module _ (s : List ℕ) (n : ℕ) (table : List ℕ) (tb : Table s n table) wher
   pub texts_length : length (texts s n table) ≡ n
   texts_length = length-map (take n table) (text_at s) ∙ taken
 
-  pub texts_at : (i : ℕ) → i < n → get_or (texts s n table) i [] ≡ text_at s (get_or table i 0)
-  texts_at i h = get_or_map_in (text_at s) (take n table) i 0 [] (omega (arith, taken)) ∙ ap (text_at s) (get_or-take n table i 0 h)
-
-  module _ (p at : ℕ) where
-    pub named_bad : (m q : ℕ) → u16 s at ≡ bad m q → bad m q ≡ named s (texts s n table) p at
-    unfolding named
-    named_bad m q e = rw e
-
-    pub named_out : (i : ℕ) → u16 s at ≡ good i → n ≤ i → bad 4 at ≡ named s (texts s n table) p at
-    unfolding named
-    named_out i e h = rw (e, texts_length, le-ltb i n h)
-
-    -- v: what the string may be used for, b: whether it may be used so
-    module _ (uses : List ℕ) (kn : Known s n table uses) (i v : ℕ) (b : Bool) (e : u16 s at ≡ good i) (h : i < n) (ev : v ≡ get_or uses i 0)
-        (eb : (t : List ℕ) → v ≡ uses_of t → b ≡ usable p t) where
-      judged : usable p (get_or (texts s n table) i []) ≡ b
-      judged = ap (usable p) (texts_at i h) ∙ sym (eb (text_at s (get_or table i 0)) (ev ∙ kn.tells i h))
-
-      pub named_wrong : b ≡ false → bad 5 at ≡ named s (texts s n table) p at
-      unfolding named
-      named_wrong f = rw (e, texts_length, lt-ltb i n h, judged, f)
-
-      pub named_yes : b ≡ true → good i ≡ named s (texts s n table) p at
-      unfolding named
-      named_yes f = rw (e, texts_length, lt-ltb i n h, judged, f)
-
-module _ (s : List ℕ) (v at : ℕ) where
-  pub exactly_yes : (i : ℕ) → u16 s at ≡ good i → i ≡ v → good i ≡ exactly s v at
-  unfolding exactly
-  exactly_yes i e h = rw (e, eq-eqb i v h)
-
-  pub exactly_no : (i : ℕ) → u16 s at ≡ good i → (i ≡ v → ⊥) → bad 4 at ≡ exactly s v at
-  unfolding exactly
-  exactly_no i e h = rw (e, ne_eqb i v h)
-
-  pub exactly_bad : (m q : ℕ) → u16 s at ≡ bad m q → bad m q ≡ exactly s v at
-  unfolding exactly
-  exactly_bad m q e = rw e
-
-module _ (s : List ℕ) (strs : List (List ℕ)) (k at : ℕ) where
-  pub absent_is : (i : ℕ) → u16 s at ≡ good i → i ≡ 65535 → good i ≡ named_or_absent s strs k at
-  unfolding named_or_absent
-  absent_is i e h = rw (e, eq-eqb i 65535 h)
-
-  pub absent_not : (i : ℕ) (o : Out ℕ) → u16 s at ≡ good i → (i ≡ 65535 → ⊥) → o ≡ named s strs k at → o ≡ named_or_absent s strs k at
-  unfolding named_or_absent named
-  absent_not i o e h n = n ∙ rw (e, ne_eqb i 65535 h)
-
-  pub absent_bad : (m q : ℕ) → u16 s at ≡ bad m q → bad m q ≡ named_or_absent s strs k at
-  unfolding named_or_absent
-  absent_bad m q e = rw e
-
 pub inside_at : (s : List ℕ) (n : ℕ) (table : List ℕ) (i o : ℕ) → Table s n table → i < n → o ≡ get_or table i 0 → o + 2 + word s o ≤ length s
 inside_at s n table i o tb h e = rw e (tb.inside i h)
-
-pub ruleset uses = (is, refused, named_bad, named_out, exactly_yes, exactly_no, exactly_bad)
-
-pub ruleset or_absent = (is, refused, absent_is, absent_bad)

@@ -13,10 +13,7 @@ use Rattle.cells.specs.Inner.Out.{Out, good, bad, ◌>>=◌}
 use Rattle.cells.specs.Inner.Places.{many, u32, long, limited, named, named_or_absent, ends}
 use Rattle.entries.specs.Inner.Places.{stands, trigger, rest, reading_criterion, reading_criteria}
 use Rattle.entries.specs.declared.Criterion.{Criterion}
-use Rattle.cells.specs.Inner.Answers.{field_out}
-use Rattle.cells.specs.declared.Field.{Field}
-use Rattle.cells.specs.declared.Field.TheVariants.{Is, Refused}
-use Rattle.cells.proofs.Laws.{u32_inv, is, refused, bad_good, good_inj}
+use Rattle.cells.proofs.Laws.{u32_inv, bad_good, good_inj}
 use Rattle.cells.proofs.Many.{many_step, many_bad, many_end, ends_inv, ends_bad}
 
 -- what holds of all that the rest of a reading can give holds of what the reading gives
@@ -89,36 +86,36 @@ module _ (s : List ℕ) (strs : List (List ℕ)) (rows n start : ℕ) where
     pub crit_end : n ≤ j → Read (good at)
     crit_end h = sym (ap ends (hd.so_far ∙ many_end (next s strs rows) n j at hd.read h))
 
-    module _ (l : j < n) (f : Field) (e : field_out f ≡ u32 s at) where
+    module _ (l : j < n) where
       stop : (m q : ℕ) → next s strs rows hd.read at ≡ bad m q → Read (bad m q)
       stop m q h = sym (ap ends (hd.so_far ∙ many_bad (next s strs rows) n j at hd.read m q l h))
 
-      pub crit_cut : (m q : ℕ) → f ≡ Refused m q → Read (field_out f)
+      pub crit_cut : (m q : ℕ) → bad m q ≡ u32 s at → Read (bad m q)
       unfolding reading_criterion
-      crit_cut m q g = ap field_out g ∙ stop m q (rw (refused e g))
+      crit_cut m q e = stop m q (rw (← e))
 
-      module _ (p : ℕ) (g : f ≡ Is p) where
+      module _ (p : ℕ) (e : good p ≡ u32 s at) where
         pub crit_repeat : earlier s start j p ≡ true → Read (bad 6 at)
         unfolding reading_criterion
-        crit_repeat t = stop 6 at (rw (is e g, hd.known p, t))
+        crit_repeat t = stop 6 at (rw (← e, hd.known p, t))
 
-        module _ (t : earlier s start j p ≡ false) (r : Field) (er : field_out r ≡ ends (rest s strs rows (long s at) at)) where
+        module _ (t : earlier s start j p ≡ false) where
           after : next s strs rows hd.read at ≡ rest s strs rows (long s at) at
           unfolding reading_criterion
-          after = rw (is e g, hd.known p, t, (u32_inv s at p (is e g)).1)
+          after = rw (← e, hd.known p, t, (u32_inv s at p (sym e)).1)
 
-          pub crit_bad : (m q : ℕ) → r ≡ Refused m q → Read (field_out r)
-          crit_bad m q h = ap field_out h ∙ stop m q (after ∙ ends_bad _ m q (refused er h))
+          pub crit_bad : (m q : ℕ) → bad m q ≡ ends (rest s strs rows (long s at) at) → Read (bad m q)
+          crit_bad m q h = stop m q (after ∙ ends_bad _ m q (sym h))
 
-          pub crit_more : (v : ℕ) → r ≡ Is v → CritHead s strs rows n start (at + 15) (j + 1)
+          pub crit_more : (v : ℕ) → good v ≡ ends (rest s strs rows (long s at) at) → CritHead s strs rows n start v (j + 1)
           unfolding earlier
           crit_more v h =
-              let (c, q) = ends_inv (rest s strs rows (long s at) at) v (is er h) in
+              let (c, q) = ends_inv (rest s strs rows (long s at) at) v (sym h) in
               let w = rest_stays s strs rows (long s at) at (c, v) q in
               record {
                 count = omega arith;
-                place = omega (arith, hd.place);
+                place = omega (arith, hd.place, w.1);
                 read = hd.read ++ (c ∷ []);
-                so_far = hd.so_far ∙ many_step (next s strs rows) n j at hd.read c (at + 15) l (after ∙ q ∙ ap (λ (x : ℕ). good (c, x)) w.1);
+                so_far = hd.so_far ∙ many_step (next s strs rows) n j at hd.read c v l (after ∙ q);
                 known = λ x. stands_snoc hd.read c x ∙ rw (hd.known x, w.0, add-one j, hd.place);
               }

@@ -1,4 +1,4 @@
--- The loop over the memberships: k of n are read, the last of them is (row, group), and `counts` has how many each row has.
+-- The loop over the memberships: k of n are read, `last` is the last of them, and `counts` has how many each row has.
 use Prim.Native.Nat.{ℕ, zero, ◌+◌, ◌-◌, ◌*◌, ◌≤◌, ◌<◌}
 use native.Mathlib.Omega.{arith}
 use native.Mathlib.Nat.{sub-zero}
@@ -9,15 +9,13 @@ use mathlib.Core.List.{List, [], ◌∷◌, ◌++◌}
 use lib.ListN.{length, get_or, set, replicate, length-set, length-replicate, get_or-replicate}
 use lib.Seq.{get_or-set_same, get_or-set_other}
 use lib.Dec.{ltb, eqb}
-use borrow.Author.Tests.{eq-eqb, ne_eqb, le-leb, lt-leb, ltb-true}
-use Rattle.cells.specs.Inner.Out.{Out, good, bad}
+use borrow.Author.Tests.{eq-eqb, ne_eqb, ltb-true}
+use Rattle.cells.specs.Inner.Out.{Out, good, bad, must, ◌>>=◌}
 use Rattle.cells.specs.Inner.Places.{many, u16}
-use Rattle.entries.specs.Inner.Places.{reading_member, reading_members, follows, comes, after, has, placed}
+use Rattle.entries.specs.Inner.Places.{reading_member, reading_members, follows, comes, after, has, few, placed}
 use Rattle.entries.specs.declared.Member.{Member}
-use Rattle.entries.specs.Inner.Answers.{pair_out, Counted}
-use Rattle.cells.specs.declared.Field.TheVariants.{Is}
-use Rattle.entries.specs.declared.Pair.{Pair}
-use Rattle.entries.specs.declared.Pair.TheVariants.{Both}
+use Rattle.entries.specs.Inner.Answers.{Counted}
+use Rattle.std.specs.Prelude.{Option, Some, None, Ok}
 use Rattle.cells.proofs.Laws.{bind_inv, must_inv, good_inj}
 use Rattle.cells.proofs.Many.{left, many_step, many_bad, many_end}
 
@@ -61,88 +59,87 @@ member_row s rows at ok m e q =
 abbrev next : List ℕ → ℕ → List Member → ℕ → Out (Member × ℕ)
 next s rows before = reading_member s rows (follows before)
 
-pub record MemberHead (s : List ℕ) (rows n start : ℕ) (counts : List ℕ) (at row group k : ℕ) : Type 0 where
+pub record MemberHead (s : List ℕ) (rows n start : ℕ) (counts : List ℕ) (last : Option Member) (k : ℕ) : Type 0 where
   pub count : k ≤ n
-  pub place : at ≡ start + 4 * k
   pub long : length counts ≡ 2048
   pub read : List Member
-  pub so_far : reading_members s rows n start ≡ many (next s rows) (n - k) at read
-  pub last : (r g : ℕ) → follows read r g ≡ comes k row group r g
+  pub so_far : reading_members s rows n start ≡ many (next s rows) (n - k) (start + 4 * k) read
+  pub rises : (r g : ℕ) → follows read r g ≡ comes last r g
   pub tally : (r : ℕ) → r < 2048 → get_or counts r 0 ≡ has read r
-  pub few : (r : ℕ) → r < 2048 → has read r ≤ k
+  pub low : (r : ℕ) → r < 2048 → has read r ≤ k
 
 module _ (s : List ℕ) (rows n start : ℕ) where
-  pub members_first : (counts : List ℕ) → counts ≡ replicate 2048 0 → MemberHead s rows n start counts start 0 0 0
+  pub members_first : (counts : List ℕ) → counts ≡ replicate 2048 0 → MemberHead s rows n start counts None 0
   unfolding reading_members has
   members_first counts e = record {
     count = omega arith;
-    place = omega arith;
     long = ap length e ∙ length-replicate {A = ℕ} 2048 0;
     read = [];
-    so_far = rw sub-zero;
-    last = λ r g. refl;
+    so_far = rw sub-zero (ap (λ (a : ℕ). many (next s rows) n a []) (omega arith));
+    rises = λ r g. refl;
     tally = λ r h. ap (λ (l : List ℕ). get_or l r 0) e ∙ get_or-replicate 2048 r 0 0 h;
-    few = λ r h. omega arith;
+    low = λ r h. omega arith;
   }
 
-  module _ (counts : List ℕ) (at row group k : ℕ) (hd : MemberHead s rows n start counts at row group k) where
-    same : (o : Out (Member × ℕ)) → o ≡ reading_member s rows (comes k row group) at → next s rows hd.read at ≡ o
-    same o e = ap (λ (t : ℕ → ℕ → Bool). reading_member s rows t at) (fun_ext (λ r. fun_ext (λ g. hd.last r g))) ∙ sym e
+  module _ (counts : List ℕ) (last : Option Member) (k : ℕ) (hd : MemberHead s rows n start counts last k) where
+    same : (o : Out (Member × ℕ)) → o ≡ reading_member s rows (comes last) (start + 4 * k) → next s rows hd.read (start + 4 * k) ≡ o
+    same o e = ap (λ (t : ℕ → ℕ → Bool). reading_member s rows t (start + 4 * k)) (fun_ext (λ r. fun_ext (λ g. hd.rises r g))) ∙ sym e
 
-    module _ (p : Pair) (e : pair_out at p ≡ reading_member s rows (comes k row group) at) where
-      pub in_table : (r g : ℕ) → p ≡ Both r g → r < rows
-      in_table r g h = member_row s rows at (comes k row group) _ _ (sym e ∙ ap (pair_out at) h)
+    pub members_bad : (m q : ℕ) → k < n → bad m q ≡ reading_member s rows (comes last) (start + 4 * k) → reading_members s rows n start ≡ bad m q
+    members_bad m q l e = hd.so_far ∙ many_bad (next s rows) n k (start + 4 * k) hd.read m q l (same _ e)
 
-      pub room : (r g : ℕ) → p ≡ Both r g → rows ≤ 2048 → get_or counts r 0 ≤ k
-      room r g h l = let i = in_table r g h in omega (arith, hd.tally r (omega arith), hd.few r (omega arith))
+    module _ (m : Member) (e : good (m, start + 4 * k + 4) ≡ reading_member s rows (comes last) (start + 4 * k)) where
+      pub in_table : m.row < rows
+      in_table = member_row s rows (start + 4 * k) (comes last) m (start + 4 * k + 4) (sym e)
 
-      pub members_bad : (m q : ℕ) → k < n → p ≡ Pair.Refused m q → reading_members s rows n start ≡ bad m q
-      members_bad m q l h = hd.so_far ∙ many_bad (next s rows) n k at hd.read m q l (same _ e ∙ ap (pair_out at) h)
+      pub room : rows ≤ 2048 → get_or counts m.row 0 ≤ k
+      room l = let i = in_table in omega (arith, hd.tally m.row (omega arith), hd.low m.row (omega arith))
 
-      pub members_more : (r g : ℕ) → k < n → rows ≤ 2048 → p ≡ Both r g → MemberHead s rows n start (set counts r (get_or counts r 0 + 1)) (at + 4) r g (k + 1)
-      members_more r g l small h =
-          let i = in_table r g h in
-          let m : Member = record { row = r; group = g } in
-          record {
+      pub members_more : (c : ℕ) → c ≡ get_or counts m.row 0 → k < n → rows ≤ 2048 → MemberHead s rows n start (set counts m.row (c + 1)) (Some m) (k + 1)
+      members_more c ec l small =
+          let i = in_table in
+          let f : start + 4 * k + 4 ≡ start + 4 * (k + 1) = omega arith in
+          rw ec (record {
             count = omega arith;
-            place = omega (arith, hd.place);
-            long = length-set counts r _ ∙ hd.long;
+            long = length-set counts m.row _ ∙ hd.long;
             read = hd.read ++ (m ∷ []);
-            so_far = hd.so_far ∙ many_step (next s rows) n k at hd.read m (at + 4) l (same _ e ∙ ap (pair_out at) h);
-            last = λ a b. follows_snoc hd.read m a b ∙ rw (ne_eqb (k + 1) 0 (omega arith));
+            so_far = hd.so_far ∙ many_step (next s rows) n k (start + 4 * k) hd.read m (start + 4 * k + 4) l (same _ e)
+                ∙ ap (λ (a : ℕ). many (next s rows) (n - (k + 1)) a (hd.read ++ (m ∷ []))) f;
+            rises = λ a b. follows_snoc hd.read m a b;
             tally = λ j lj. tally_snoc counts hd.read m 2048 hd.long (omega arith) hd.tally j lj;
-            few = λ j lj. omega (arith, has_snoc hd.read m j, one_more (eqb r j), hd.few j lj);
-          }
+            low = λ j lj. omega (arith, has_snoc hd.read m j, one_more (eqb m.row j), hd.low j lj);
+          })
 
-    pub members_end : n ≤ k → rows ≤ 2048 → Counted (Is at) s rows n start counts
+    pub members_end : n ≤ k → rows ≤ 2048 → Counted (Ok (start + 4 * n)) s rows n start counts
     members_end h small =
         let z : k ≡ n = omega arith in
-        (hd.read, hd.so_far ∙ many_end (next s rows) n k at hd.read h, λ r l. hd.tally r (omega arith), omega (arith, hd.place))
+        let f : start + 4 * k ≡ start + 4 * n = omega arith in
+        (hd.read, hd.so_far ∙ many_end (next s rows) n k (start + 4 * k) hd.read h ∙ ap (λ (a : ℕ). good (hd.read, a)) f, λ r l. hd.tally r (omega arith), refl)
 
 -- ---- every row has 1 to 8
 
 module _ (f : ℕ → ℕ) (rows start : ℕ) where
-  pub record PlacedHead (at k : ℕ) : Type 0 where
-    pub count : k ≤ rows
-    pub place : at ≡ start + 7 * k
-    pub so_far : placed f rows 0 start ≡ placed f (rows - k) k at
+  -- the rows before k are right
+  pub record PlacedHead (k : ℕ) : Type 0 where
+    pub so_far : placed f rows 0 start ≡ placed f (rows - k) k (start + 7 * k)
 
-  pub placed_first : PlacedHead start 0
-  placed_first = record { count = omega arith; place = omega arith; so_far = rw sub-zero }
+  pub placed_first : PlacedHead 0
+  placed_first = record { so_far = rw sub-zero (ap (λ (a : ℕ). placed f rows 0 a) (omega arith)) }
 
-  module _ (at k : ℕ) (hd : PlacedHead at k) where
-    pub placed_none : (c : ℕ) → c ≡ f k → k < rows → c < 1 → bad 4 at ≡ placed f rows 0 start
+  module _ (k : ℕ) (hd : PlacedHead k) (l : k < rows) where
+    at_place : (b : Bool) → b ≡ (few (f k)) → placed f rows 0 start ≡ (must b 4 (start + 7 * k) >>= λ _. placed f (rows - (k + 1)) (k + 1) (start + 7 * k + 7))
     unfolding placed
-    placed_none c e l h = sym (hd.so_far ∙ rw (left rows k l, ← e, lt-leb 1 c h))
+    at_place b e = hd.so_far ∙ rw (left rows k l, e)
 
-    pub placed_many : (c : ℕ) → c ≡ f k → k < rows → 1 ≤ c → 8 < c → bad 4 at ≡ placed f rows 0 start
-    unfolding placed
-    placed_many c e l h h₂ = sym (hd.so_far ∙ rw (left rows k l, ← e, le-leb 1 c h, lt-leb c 8 h₂))
+    module _ (b : Bool) (eb : b ≡ few (f k)) where
+      pub placed_bad : (m q : ℕ) → bad m q ≡ must b 4 (start + 7 * k) → bad m q ≡ placed f rows 0 start
+      placed_bad m q e = sym (at_place b eb ∙ rw (← e))
 
-    pub placed_more : (c : ℕ) → c ≡ f k → k < rows → 1 ≤ c → c ≤ 8 → PlacedHead (at + 7) (k + 1)
-    unfolding placed
-    placed_more c e l h h₂ = record { count = omega arith; place = omega (arith, hd.place); so_far = hd.so_far ∙ rw (left rows k l, ← e, le-leb 1 c h, le-leb c 8 h₂) }
+      pub placed_more : good tt ≡ must b 4 (start + 7 * k) → PlacedHead (k + 1)
+      placed_more e =
+          let g : start + 7 * k + 7 ≡ start + 7 * (k + 1) = omega arith in
+          record { so_far = at_place b eb ∙ rw (← e) (ap (λ (a : ℕ). placed f (rows - (k + 1)) (k + 1) a) g) }
 
-    pub placed_end : rows ≤ k → good tt ≡ placed f rows 0 start
-    unfolding placed
-    placed_end h = let z : rows - k ≡ zero = omega arith in sym (hd.so_far ∙ rw z)
+  pub placed_end : (k : ℕ) → PlacedHead k → rows ≤ k → good tt ≡ placed f rows 0 start
+  unfolding placed
+  placed_end k hd h = let z : rows - k ≡ zero = omega arith in sym (hd.so_far ∙ rw z)

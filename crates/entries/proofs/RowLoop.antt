@@ -4,14 +4,11 @@ use native.Mathlib.Omega.{arith}
 use native.Mathlib.Nat.{sub-zero}
 use mathlib.Core.Path.{◌≡◌, sym, ap, ◌∙◌}
 use mathlib.Core.List.{List, [], ◌∷◌, ◌++◌}
-use Rattle.cells.specs.Inner.Out.{good}
+use Rattle.cells.specs.Inner.Out.{good, bad}
 use Rattle.cells.specs.Inner.Places.{many, ends, limited}
 use Rattle.entries.specs.Inner.Places.{reading_row, reading_rows, first_of_row, second_of_row}
 use Rattle.entries.specs.declared.Row.{Row}
-use Rattle.cells.specs.Inner.Answers.{field_out}
-use Rattle.cells.specs.declared.Field.{Field}
-use Rattle.cells.specs.declared.Field.TheVariants.{Is, Refused}
-use Rattle.cells.proofs.Laws.{is, refused, good_inj}
+use Rattle.cells.proofs.Laws.{good_inj}
 use Rattle.cells.proofs.Many.{many_step, many_bad, many_end, ends_inv, ends_bad, ends_bind}
 
 pub record RowHead (s : List ℕ) (strs : List (List ℕ)) (n start at k : ℕ) : Type 0 where
@@ -31,15 +28,14 @@ module _ (s : List ℕ) (strs : List (List ℕ)) where
     rows_first = record { count = omega arith; place = omega arith; read = []; so_far = rw sub-zero }
 
     module _ (at k : ℕ) (hd : RowHead s strs n start at k) where
-      pub rows_more : (r : Field) (v : ℕ) → k < n → field_out r ≡ ends (reading_row s strs at) → r ≡ Is v → RowHead s strs n start v (k + 1)
-      rows_more r v h e g =
-          let q = is e g in
-          let (a, o) = ends_inv (reading_row s strs at) v q in
-          let z = row_next at v q in
+      pub rows_more : (v : ℕ) → k < n → good v ≡ ends (reading_row s strs at) → RowHead s strs n start v (k + 1)
+      rows_more v h r =
+          let (a, o) = ends_inv (reading_row s strs at) v (sym r) in
+          let z = row_next at v (sym r) in
           record { count = omega arith; place = omega (arith, hd.place); read = hd.read ++ (a ∷ []); so_far = hd.so_far ∙ many_step (λ _. reading_row s strs) n k at hd.read a v h o }
 
-      pub rows_bad : (r : Field) (m q : ℕ) → k < n → field_out r ≡ ends (reading_row s strs at) → r ≡ Refused m q → field_out r ≡ ends (reading_rows s strs n start)
-      rows_bad r m q h e g = ap field_out g ∙ sym (ap ends (hd.so_far ∙ many_bad (λ _. reading_row s strs) n k at hd.read m q h (ends_bad (reading_row s strs at) m q (refused e g))))
+      pub rows_bad : (m q : ℕ) → k < n → bad m q ≡ ends (reading_row s strs at) → bad m q ≡ ends (reading_rows s strs n start)
+      rows_bad m q h r = sym (ap ends (hd.so_far ∙ many_bad (λ _. reading_row s strs) n k at hd.read m q h (ends_bad (reading_row s strs at) m q (sym r))))
 
       pub rows_end : n ≤ k → good at ≡ ends (reading_rows s strs n start)
       rows_end h = sym (ap ends (hd.so_far ∙ many_end (λ _. reading_row s strs) n k at hd.read h))

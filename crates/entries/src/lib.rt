@@ -12,14 +12,6 @@ pub use crate::criteria_table::criteria;
 pub use crate::memberships::{all_placed, members};
 pub use crate::trigger_rows::rows;
 use cells::{number, priority};
-use octets::from_byte;
-
-// What reading a membership gives: its row and its group, or the refusal.
-#[derive(Clone, Copy)]
-pub enum Pair {
-    Both(usize, usize),
-    Refused { number: u8, place: usize },
-}
 
 // A trigger row's numbers, as they stand in the image.
 #[derive(Clone, Copy)]
@@ -31,8 +23,8 @@ pub struct Row {
     pub set: usize,
 }
 
-// A membership's numbers.
-#[derive(Clone, Copy)]
+// A membership's numbers, which rise by row and then group.
+#[derive(Clone, Copy, PartialEq, Eq, PartialOrd, Ord)]
 pub struct Member {
     pub row: usize,
     pub group: usize,
@@ -64,11 +56,11 @@ pub fn read_row(s: &[u8], at: usize) -> Row
     ensures { result ≡ row_numbers s.now at }
 {
     Row {
-        negated: from_byte(s[at]),
-        kind: from_byte(s[at + 1]),
+        negated: usize::from(s[at]),
+        kind: usize::from(s[at + 1]),
         first: number(s, at + 2),
         second: number(s, at + 4),
-        set: from_byte(s[at + 6]),
+        set: usize::from(s[at + 6]),
     }
 }
 
@@ -87,7 +79,7 @@ fn read_trigger(s: &[u8], at: usize) -> Trigger
     ensures { result ≡ trigger_numbers s.now at }
 {
     Trigger {
-        form: from_byte(s[at]),
+        form: usize::from(s[at]),
         first: number(s, at + 1),
         count: number(s, at + 3),
     }
@@ -99,10 +91,10 @@ pub fn read_criterion(s: &[u8], at: usize) -> Criterion
 {
     Criterion {
         priority: priority(s, at),
-        part: from_byte(s[at + 4]),
+        part: usize::from(s[at + 4]),
         trigger: read_trigger(s, at + 5),
         server: number(s, at + 10),
-        handling: from_byte(s[at + 12]),
+        handling: usize::from(s[at + 12]),
         info: number(s, at + 13),
     }
 }

@@ -1,107 +1,61 @@
 // Section three: the memberships, and how many each row has.
+#![tactic(auto, unfolding(crate::specs::Inner::Places::reading_member))]
+
 ghost use Rattle.std.specs.Prelude.{◌≡◌, ◌≤◌, get_or, replicate};
-ghost use Rattle.entries.specs.Inner.Places.{reading_member, comes, placed};
-ghost use Rattle.entries.specs.Inner.Answers.{pair_out, check_out, Counted};
+ghost use Rattle.cells.specs.Inner.Answers.{field_out};
+ghost use Rattle.entries.specs.Inner.Places.{reading_member, comes, few, placed};
+ghost use Rattle.entries.specs.Inner.Answers.{member_out, Counted};
 
-use crate::Pair;
-use cells::{Field, word_at};
+use crate::Member;
+use cells::{Fault, Refusal, must, word_at};
 
-// Whether (r, g) comes after (row, group), which stands k-th, if k is not 0.
-fn comes_after(k: usize, row: usize, group: usize, r: usize, g: usize) -> bool
-    ensures { result ≡ comes k row group r g }
-{
-    if k == 0 {
-        return true;
-    }
-    if row < r {
-        return true;
-    }
-    if row == r {
-        return group < g;
-    }
-    false
-}
-
-// The membership at `at`, before which k stand, the last of them (row, group).
-fn member_at(s: &[u8], rows: usize, k: usize, row: usize, group: usize, at: usize) -> Pair
+// The membership at `at`, which comes after the last one.
+fn member_at(s: &[u8], rows: usize, last: Option<Member>, at: usize) -> Result<Member, Refusal>
     requires { at ≤ 150000 }
-    ensures { pair_out at result ≡ reading_member s.now rows (comes k row group) at }
+    ensures { member_out at result ≡ reading_member s.now rows (comes last) at }
 {
-    match word_at(s, at) {
-        Field::Is(r) => {
-            if rows <= r {
-                return Pair::Refused {
-                    number: 4,
-                    place: at,
-                };
-            }
-            match word_at(s, at + 2) {
-                Field::Is(g) => {
-                    if comes_after(k, row, group, r, g) {
-                        Pair::Both(r, g)
-                    } else {
-                        Pair::Refused {
-                            number: 4,
-                            place: at,
-                        }
-                    }
-                }
-                Field::Refused { number, place } => Pair::Refused { number, place },
-            }
-        }
-        Field::Refused { number, place } => Pair::Refused { number, place },
-    }
+    let row = word_at(s, at)?;
+    must(row < rows, Fault::OutOfRange, at)?;
+    let group = word_at(s, at + 2)?;
+    let m = Member { row, group };
+    must(last.is_none_or(|l| l < m), Fault::OutOfRange, at)?;
+    Ok(m)
 }
 
 // Section 3 after its count: how many memberships each row has goes into `counts`.
-pub fn members(s: &[u8], rows: usize, n: usize, start: usize, counts: &mut [u16; 2048]) -> Field
+pub fn members(
+    s: &[u8],
+    rows: usize,
+    n: usize,
+    start: usize,
+    counts: &mut [u16; 2048],
+) -> Result<usize, Refusal>
     requires { (start ≤ 60000) × (rows ≤ 2048) × (n ≤ 16384) × (counts.old ≡ replicate 2048 0) }
     ensures { Counted result s.now rows n start counts.new }
 {
-    let mut at = start;
-    let mut row: usize = 0;
-    let mut group: usize = 0;
-    let mut k: usize = 0;
-    while k < n {
-        match member_at(s, rows, k, row, group, at) {
-            Pair::Both(r, g) => {
-                counts[r] = counts[r] + 1;
-                row = r;
-                group = g;
-                at += 4;
-                k += 1;
-            }
-            Pair::Refused { number, place } => {
-                return Field::Refused { number, place };
-            }
-        }
+    let mut last = None;
+    for k in 0..n {
+        let m = member_at(s, rows, last, start + 4 * k)?;
+        counts[m.row] += 1;
+        last = Some(m);
     }
-    Field::Is(at)
+    Ok(start + 4 * n)
+}
+
+// "Every row has 1 to 8"
+fn is_few(count: u16) -> bool
+    ensures { result ≡ few count }
+{
+    (1..=8).contains(&count)
 }
 
 // After section 3: every row has 1 to 8 memberships.
-pub fn all_placed(counts: &[u16; 2048], rows: usize, start: usize) -> Field
+pub fn all_placed(counts: &[u16; 2048], rows: usize, start: usize) -> Result<(), Refusal>
     requires { (rows ≤ 2048) × (start ≤ 60000) }
-    ensures { check_out result ≡ placed (λ k. get_or counts.now k 0) rows 0 start }
+    ensures { field_out result ≡ placed (λ k. get_or counts.now k 0) rows 0 start }
 {
-    let mut at = start;
-    let mut k: usize = 0;
-    while k < rows {
-        let c = octets::from_word(counts[k]);
-        if c < 1 {
-            return Field::Refused {
-                number: 4,
-                place: at,
-            };
-        }
-        if 8 < c {
-            return Field::Refused {
-                number: 4,
-                place: at,
-            };
-        }
-        at += 7;
-        k += 1;
+    for k in 0..rows {
+        must(is_few(counts[k]), Fault::OutOfRange, start + 7 * k)?;
     }
-    Field::Is(0)
+    Ok(())
 }

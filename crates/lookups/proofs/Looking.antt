@@ -1,21 +1,22 @@
 -- What check and the lookups answer, from what the judging of the image kept.
-use mathlib.Core.Bool.{Bool, true, false, ◌&&◌, true≢false}
 use mathlib.Core.Option.{Option, none, some}
 use mathlib.Core.Path.{◌≡◌, refl, sym, ap, ap₂, ◌∙◌, subst}
 use Prim.Native.Nat.{ℕ, ◌+◌, ◌*◌, ◌≤◌, ◌<◌, zero-le}
 use mathlib.Core.List.{List}
 use lib.ListN.{length, get_elem?}
-use lib.Dec.{eqb}
-use Rattle.octets.specs.Lists.{pick}
-use Rattle.octets.proofs.Options.{Ok}
+use Rattle.octets.proofs.Options as options
 use Rattle.octets.proofs.Each.{each_at}
 use Rattle.profile.specs.Image as image
 use Rattle.profile.specs.Image.{Stored, Judged, accepted, refused}
 use Rattle.profile.specs.Judging.{judge}
-use Rattle.cells.specs.Inner.Places.{word}
 use Rattle.profile.specs.Inner.Decoded.{layout, strings, stored_in, string_of, criterion_with, criterion_from, profile_in}
 use Rattle.lookups.specs.Lookups.{checked, check, no_part, the_part, look_at, look_judged, its_server, its_information, server, information, part_of, Checks, Serves, Informs}
-use Rattle.lookups.specs.Inner.Looking.{its_part, Looks}
+use Rattle.lookups.specs.Inner.Looking.{Found}
+use Rattle.lookups.specs.declared.Checked.{Checked}
+use Rattle.entries.specs.declared.Criterion.{Criterion}
+use Rattle.entries.specs.Inner.Places.{criterion_numbers}
+use Rattle.std.specs.Prelude.{Ok, Err}
+use borrow.Author.Tests.{eq-eqb, ne_eqb}
 use Rattle.profile.specs.Inner.Kept.{kept, judgement, Judges}
 use Rattle.profile.specs.declared.Layout.{Layout}
 use Rattle.lookups.specs.declared.Lookup.{Lookup}
@@ -23,13 +24,13 @@ use Rattle.profile.specs.declared.Judgement.{Judgement}
 use Rattle.profile.proofs.Accepted.{Inside, Fine, accepted_sound}
 use Rattle.profile.proofs.Opened.{opened, strings_are, spaced_past, spaced_at}
 
-pub checked_is : (s : List ℕ) (j : Judgement) → Judges s j → Checks s (record { refusal = j.refusal; place = j.place })
+pub checked_is : (s : List ℕ) (j : Judgement) (a : Checked) → Judges s j → (a.refusal ≡ j.refusal) × (a.place ≡ j.place) → Checks s a
 unfolding judgement check
-checked_is s j h = record { answer = go (judge s) h.answer }
+checked_is s j a h e = record { answer = go (judge s) h.answer }
   where
-    go : (d : Judged) → j ≡ kept s d → record { refusal = j.refusal; place = j.place } ≡ checked d
-    go (accepted p) f = ap₂ (λ (a b : ℕ). record { refusal = a; place = b }) (ap (λ (x : Judgement). x.refusal) f) (ap (λ (x : Judgement). x.place) f)
-    go (refused n place) f = ap₂ (λ (a b : ℕ). record { refusal = a; place = b }) (ap (λ (x : Judgement). x.refusal) f) (ap (λ (x : Judgement). x.place) f)
+    go : (d : Judged) → j ≡ kept s d → a ≡ checked d
+    go (accepted p) f = ap₂ (λ (n p : ℕ). record { refusal = n; place = p }) (e.0 ∙ ap (λ (x : Judgement). x.refusal) f) (e.1 ∙ ap (λ (x : Judgement). x.place) f)
+    go (refused n place) f = ap₂ (λ (n p : ℕ). record { refusal = n; place = p }) (e.0 ∙ ap (λ (x : Judgement). x.refusal) f) (e.1 ∙ ap (λ (x : Judgement). x.place) f)
 
 -- a lookup of any part
 module _ (part : image.Criterion → Option Stored) (s : List ℕ) (j : Judgement) (h : Judges s j) (k : ℕ) where
@@ -59,66 +60,60 @@ module _ (part : image.Criterion → Option Stored) (s : List ℕ) (j : Judgemen
         ap (λ (y : Layout). the_part (part (criterion_from (strings s) s (y.criteria + 15 * k)))) y
         ∙ sym (look_on ∙ ap (look_at part) (spaced_at (criterion_from (strings s) s) 15 (layout s).criteria (layout s).criterion_count k e))
 
--- ---- what a criterion's part is, by the number of the string that it names
+-- ---- the criterion that is looked for
 
-abbrev named : Bool → List ℕ → ℕ → ℕ
-named b s at = pick b (word s (at + 13)) (word s (at + 10))
+module _ (s : List ℕ) (j : Judgement) (h : Judges s j) (k : ℕ) where
+  pub found_refused : (a : Checked) → (a.refusal ≡ j.refusal) × (a.place ≡ j.place) → (j.refusal ≡ 0 → ⊥) → Found s j k (Err a)
+  found_refused a e n = λ part. ap₂ no_part e.0 e.1 ∙ look_refused part s j h k n
 
-module _ (s : List ℕ) (at i : ℕ) where
-  part_absent : (b : Bool) → i ≡ named b s at → (b && eqb i 65535) ≡ true → no_part 0 0 ≡ the_part (its_part b (criterion_from (strings s) s at))
-  unfolding criterion_from criterion_with
-  part_absent true e a = sym (ap (λ (t : Bool). the_part (pick t none (some (string_of (strings s) (word s (at + 13)))))) (ap (λ (n : ℕ). eqb n 65535) (sym e) ∙ a))
-  part_absent false e a = absurd (true≢false (sym a))
+  module _ (z : j.refusal ≡ 0) where
+    pub found_past : j.layout.criterion_count ≤ k → Found s j k (Err (record { refusal = 13; place = 0 }))
+    found_past l = λ part. look_past part s j h k z l
 
-  part_stored : (b : Bool) → i ≡ named b s at → (b && eqb i 65535) ≡ false
-      → the_part (some (string_of (strings s) i)) ≡ the_part (its_part b (criterion_from (strings s) s at))
-  unfolding criterion_from criterion_with
-  part_stored true e a =
-      ap (λ (n : ℕ). the_part (some (string_of (strings s) n))) e
-      ∙ sym (ap (λ (t : Bool). the_part (pick t none (some (string_of (strings s) (word s (at + 13)))))) (ap (λ (n : ℕ). eqb n 65535) (sym e) ∙ a))
-  part_stored false e a = ap (λ (n : ℕ). the_part (some (string_of (strings s) n))) e
+    pub found_there : (c : Criterion) → c ≡ criterion_numbers s (j.layout.criteria + 15 * k) → k < j.layout.criterion_count → Found s j k (Ok c)
+    unfolding criterion_from
+    found_there c e l = (z, λ part. ap (λ (x : Criterion). the_part (part (criterion_with (strings s) x))) e ∙ look_there part s j h k z l)
 
 -- ---- the lookups' answers
 
-module _ (b : Bool) (s : List ℕ) (j : Judgement) (h : Judges s j) (k : ℕ) (l : Lookup) where
-  pub looks_refused : l ≡ no_part j.refusal j.place → (j.refusal ≡ 0 → ⊥) → Looks b s k l
-  looks_refused e n = record { answer = e ∙ look_refused (its_part b) s j h k n }
+module _ (s : List ℕ) (j : Judgement) (h : Judges s j) (k : ℕ) (l : Lookup) where
+  module _ (a : Checked) (there : Found s j k (Err a)) (q : l ≡ no_part a.refusal a.place) where
+    pub serves_none : Serves s k l
+    unfolding server
+    serves_none = record { answer = q ∙ there its_server }
 
-  module _ (z : j.refusal ≡ 0) where
-    pub looks_past : l ≡ no_part 13 0 → j.layout.criterion_count ≤ k → Looks b s k l
-    looks_past e n = record { answer = e ∙ look_past (its_part b) s j h k z n }
+    pub informs_none : Informs s k l
+    unfolding information
+    informs_none = record { answer = q ∙ there its_information }
 
-    module _ (there : k < j.layout.criterion_count) (i : ℕ) (e : i ≡ named b s (j.layout.criteria + 15 * k)) where
-      pub looks_absent : l ≡ no_part 0 0 → (b && eqb i 65535) ≡ true → Looks b s k l
-      looks_absent q a = record { answer = q ∙ part_absent s (j.layout.criteria + 15 * k) i b e a ∙ look_there (its_part b) s j h k z there }
+  module _ (c : Criterion) (there : Found s j k (Ok c)) where
+    from_table : (i : ℕ) → the_part (some (string_of (stored_in s j.layout.strings j.table) i)) ≡ the_part (some (string_of (strings s) i))
+    from_table i = ap (λ (t : List Stored). the_part (some (string_of t i))) (strings_are s j h there.0)
 
-      pub looks_stored : l ≡ the_part (some (string_of (stored_in s j.layout.strings j.table) i)) → (b && eqb i 65535) ≡ false → Looks b s k l
-      looks_stored q a = record {
-        answer =
-            q ∙ ap (λ (t : List Stored). the_part (some (string_of t i))) (strings_are s j h z)
-            ∙ part_stored s (j.layout.criteria + 15 * k) i b e a ∙ look_there (its_part b) s j h k z there;
-      }
+    pub serves : l ≡ the_part (some (string_of (stored_in s j.layout.strings j.table) c.server)) → Serves s k l
+    unfolding server criterion_with
+    serves q = record { answer = q ∙ from_table c.server ∙ there.1 its_server }
 
-pub looks_server : (s : List ℕ) (k : ℕ) (l : Lookup) → Looks false s k l → Serves s k l
-unfolding server
-looks_server s k l a = record { answer = a.answer }
+    pub informs_absent : c.info ≡ 65535 → l ≡ no_part 0 0 → Informs s k l
+    unfolding information criterion_with
+    informs_absent n q = record { answer = q ∙ rw (eq-eqb c.info 65535 n) at (there.1 its_information) }
 
-pub looks_information : (s : List ℕ) (k : ℕ) (l : Lookup) → Looks true s k l → Informs s k l
-unfolding information
-looks_information s k l a = record { answer = a.answer }
+    pub informs : (c.info ≡ 65535 → ⊥) → l ≡ the_part (some (string_of (stored_in s j.layout.strings j.table) c.info)) → Informs s k l
+    unfolding information criterion_with
+    informs n q = record { answer = q ∙ from_table c.info ∙ rw (ne_eqb c.info 65535 n) at (there.1 its_information) }
 
 -- ---- what is handed back lies in the image
 
-ends_in : (s : List ℕ) (o : Option Stored) → Ok (Inside s) o → (the_part o).start + (the_part o).size ≤ length s
+ends_in : (s : List ℕ) (o : Option Stored) → options.Ok (Inside s) o → (the_part o).start + (the_part o).size ≤ length s
 ends_in s none h = zero-le
 ends_in s (some x) h = h.ends
 
-look_in : (part : image.Criterion → Option Stored) (s : List ℕ) (n k : ℕ) → ((c : image.Criterion) → Fine s n c → Ok (Inside s) (part c))
-    → (o : Option image.Criterion) → Ok (Fine s n) o → (look_at part o).start + (look_at part o).size ≤ length s
+look_in : (part : image.Criterion → Option Stored) (s : List ℕ) (n k : ℕ) → ((c : image.Criterion) → Fine s n c → options.Ok (Inside s) (part c))
+    → (o : Option image.Criterion) → options.Ok (Fine s n) o → (look_at part o).start + (look_at part o).size ≤ length s
 look_in part s n k f none h = zero-le
 look_in part s n k f (some c) h = ends_in s (part c) (f c h)
 
-judged_in : (part : image.Criterion → Option Stored) (s : List ℕ) (k : ℕ) → ((n : ℕ) (c : image.Criterion) → Fine s n c → Ok (Inside s) (part c))
+judged_in : (part : image.Criterion → Option Stored) (s : List ℕ) (k : ℕ) → ((n : ℕ) (c : image.Criterion) → Fine s n c → options.Ok (Inside s) (part c))
     → (look_judged part (judge s) k).start + (look_judged part (judge s) k).size ≤ length s
 judged_in part s k f = go (judge s) refl
   where

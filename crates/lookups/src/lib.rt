@@ -3,12 +3,14 @@
 
 ghost use Rattle.std.specs.Prelude.{◌≡◌, ◌+◌, ◌≤◌, length};
 ghost use Rattle.std.proofs.Math.Option.{some};
-ghost use Rattle.octets.specs.Lists.{pick};
 ghost use Rattle.cells.specs.Inner.Answers.{Table};
 ghost use Rattle.profile.specs.Inner.Decoded.{stored_in, string_of};
-ghost use Rattle.entries.specs.Inner.Places.{criterion_numbers};
+ghost use Rattle.profile.specs.Inner.Kept.{Judges};
 ghost use Rattle.lookups.specs.Lookups.{no_part, the_part, part_of, server as server-of, information as information-of, Checks, Serves, Informs};
-ghost use Rattle.lookups.specs.Inner.Looking.{Looks};
+ghost use Rattle.lookups.specs.Inner.Looking.{Found};
+
+use entries::{Criterion, read_criterion};
+use profile::Judgement;
 
 // What the check of an image answers: the refusal number (0 if none) and its place.
 #[derive(Clone, Copy)]
@@ -27,14 +29,19 @@ pub struct Lookup {
     pub size: u32,
 }
 
-pub fn check(image: &[u8]) -> Checked
-    ensures { Checks image.now result }
+fn refusal_of(j: &Judgement) -> Checked
+    ensures { (result.refusal ≡ j.now.refusal) × (result.place ≡ j.now.place) }
 {
-    let j = profile::judge(image);
     Checked {
         refusal: j.refusal,
         place: j.place,
     }
+}
+
+pub fn check(image: &[u8]) -> Checked
+    ensures { Checks image.now result }
+{
+    refusal_of(&profile::judge(image))
 }
 
 fn no_part_with(refusal: u32, place: u32) -> Lookup
@@ -63,60 +70,54 @@ fn stored_part(s: &[u8], table: &[u16; 1024], n: usize, i: usize) -> Lookup
             size: 0,
         };
     }
-    let o = octets::from_word(table[i]);
-    let n = cells::number(s, o);
+    let o = usize::from(table[i]);
+    let size = cells::number(s, o);
     Lookup {
         refusal: 0,
         place: 0,
         present: true,
         start: (o + 2) as u32,
-        size: n as u32,
+        size: size as u32,
     }
 }
 
-// The number of the string that the criterion at a place names: its server, or its information.
-fn string_named(image: &[u8], at: usize, information: bool) -> usize
-    requires { (at + 15 ≤ length image.now) × (length image.now ≤ 32768) }
-    ensures { result ≡ pick information (criterion_numbers image.now at).info (criterion_numbers image.now at).server }
+// The numbers of a criterion, or the refusal: that of the image, or 13 where it has no such criterion.
+fn criterion_of(image: &[u8], j: &Judgement, criterion: u32) -> Result<Criterion, Checked>
+    requires { Judges image.now j.now }
+    ensures { Found image.now j.now criterion result }
 {
-    let c = entries::read_criterion(image, at);
-    if information {
-        return c.info;
-    }
-    c.server
-}
-
-// Both lookups: a criterion's information, or its server.
-fn look_up(image: &[u8], criterion: u32, information: bool) -> Lookup
-    ensures { Looks information image.now criterion result }
-{
-    let j = profile::judge(image);
     if j.refusal != 0 {
-        return no_part_with(j.refusal, j.place);
+        return Err(refusal_of(j));
     }
-    let y = j.layout;
     let i = criterion as usize;
-    if y.criterion_count <= i {
-        return no_part_with(13, 0);
+    if j.layout.criterion_count <= i {
+        return Err(Checked {
+            refusal: 13,
+            place: 0,
+        });
     }
-    let k = string_named(image, y.criteria + 15 * i, information);
-    if information & (k == 65535) {
-        return no_part_with(0, 0);
-    }
-    let table = j.table;
-    stored_part(image, &table, y.strings, k)
+    Ok(read_criterion(image, j.layout.criteria + 15 * i))
 }
 
 pub fn server(image: &[u8], criterion: u32) -> Lookup
     ensures { Serves image.now criterion result }
 {
-    look_up(image, criterion, false)
+    let j = profile::judge(image);
+    match criterion_of(image, &j, criterion) {
+        Ok(c) => stored_part(image, &j.table, j.layout.strings, c.server),
+        Err(e) => no_part_with(e.refusal, e.place),
+    }
 }
 
 pub fn information(image: &[u8], criterion: u32) -> Lookup
     ensures { Informs image.now criterion result }
 {
-    look_up(image, criterion, true)
+    let j = profile::judge(image);
+    match criterion_of(image, &j, criterion) {
+        Ok(c) if c.info == 65535 => no_part_with(0, 0),
+        Ok(c) => stored_part(image, &j.table, j.layout.strings, c.info),
+        Err(e) => no_part_with(e.refusal, e.place),
+    }
 }
 
 // A lookup's part of the image, no copy.

@@ -1,10 +1,10 @@
 -- The fields and the strings of an image as the code reads them, by places in the bytes. The definition to believe is profile
 -- `Judging`; profile `proofs/Same` shows that both give the same number and place.
 use Rattle.std.specs.Prelude.{ℕ, zero, suc, ◌+◌, ◌*◌, ◌≤◌, ◌<◌, Bool, not, ◌||◌, List, [], ◌∷◌, ◌++◌, map, length, get_or, take, drop, leb, ltb, eqb}
-use Rattle.std.specs.Int.Bits.{bit_or}
 use Rattle.octets.specs.Lists.{pick, empty}
 use Rattle.octets.specs.Bytes.{token}
 use Rattle.basic.specs.Inner.Judged.{is_pattern}
+use Rattle.cells.specs.declared.Suits.{Suits}
 use Rattle.cells.specs.Inner.Out.{Out, good, bad, ◌>>=◌, must, ◌>>◌}
 
 -- ---- integers are big-endian
@@ -80,12 +80,9 @@ reading_strings s n at = many (λ _. string s) n at []
 unfoldable pub usable : ℕ → List ℕ → Bool
 usable purpose t = pick (eqb purpose 1) (token t) (pick (eqb purpose 2 || eqb purpose 4) (is_pattern t) (eqb purpose 5 || not (empty t)))
 
--- all that a string may be used for, as bits: 1 RequestURI or server, 2 Method, 4 pattern
-abbrev pub use_bits : Bool → Bool → Bool → ℕ
-use_bits server method line = bit_or (bit_or (pick server 1 0) (pick method 2 0)) (pick line 4 0)
-
-unfoldable pub uses_of : List ℕ → ℕ
-uses_of t = use_bits (not (empty t)) (token t) (is_pattern t)
+-- all that a string may be used for
+unfoldable pub uses_of : List ℕ → Suits
+uses_of t = record { server = not (empty t); method = token t; pattern = is_pattern t }
 
 abbrev pub absent : ℕ
 absent = 65535

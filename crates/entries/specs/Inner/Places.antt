@@ -1,6 +1,6 @@
 -- The rows, memberships and criteria of an image as the code reads them, by places in the bytes. The definition to believe is
 -- profile `Judging`; profile `proofs/Same` shows that both give the same number and place.
-use Rattle.std.specs.Prelude.{ℕ, zero, suc, ◌+◌, Bool, true, false, not, cond, ◌&&◌, ◌||◌, List, [], ◌∷◌, leb, ltb, eqb}
+use Rattle.std.specs.Prelude.{ℕ, zero, suc, ◌+◌, Bool, true, false, not, cond, ◌&&◌, ◌||◌, List, [], ◌∷◌, leb, ltb, eqb, Option, Some, None}
 use Rattle.entries.specs.declared.Row.{Row}
 use Rattle.entries.specs.declared.Member.{Member}
 use Rattle.entries.specs.declared.Trigger.{Trigger}
@@ -58,11 +58,15 @@ unfoldable pub has : List Member → ℕ → ℕ
 has [] r = 0
 has (m ∷ ms) r = cond (eqb m.row r) 1 0 + has ms r
 
--- n rows from number r, the first at `at`, have 1 to 8 each
+-- 1 to 8 memberships
+abbrev pub few : ℕ → Bool
+few c = leb 1 c && leb c 8
+
+-- n rows from number r, the first at `at`, have so many each
 unfoldable pub placed : (ℕ → ℕ) → ℕ → ℕ → ℕ → Out Unit
 placed memberships zero r at = good tt
 placed memberships (suc n) r at = do
-  u ← must (leb 1 (memberships r) && leb (memberships r) 8) 4 at
+  u ← must (few (memberships r)) 4 at
   placed memberships n (r + 1) (at + 7)
 
 -- ---- criteria
@@ -132,6 +136,7 @@ criterion_numbers s at =
 
 -- ---- what the contracts of the code cite
 
--- they come after the k-th, (row, group), if k is not 0
-abbrev pub comes : ℕ → ℕ → ℕ → ℕ → ℕ → Bool
-comes k row group r g = eqb k 0 || after row group r g
+-- they come after the last one, if there is one
+abbrev pub comes : Option Member → ℕ → ℕ → Bool
+comes None r g = true
+comes (Some m) r g = after m.row m.group r g

@@ -1,5 +1,12 @@
-use Rattle.lookups.proofs.Looking.{looks_server}
+use Rattle.profile.proofs.Opened.{opened, table_of}
+use Rattle.lookups.proofs.Looking.{serves, serves_none}
 use Rattle.lookups.proofs.server.Goals as goal
 
-pub returns : goal.returns
-returns c = search looks_server
+pub stored_part-requires : goal.stored_part-requires
+stored_part-requires c = (table_of _ _ c.judge-j.ensures c.in-Ok.ensures.0, (opened _ _ c.judge-j.ensures c.in-Ok.ensures.0).size)
+
+pub returns-in-Ok : goal.returns-in-Ok
+returns-in-Ok c = serves _ _ c.judge-j.ensures _ _ _ c.in-Ok.ensures c.stored_part.ensures
+
+pub returns-in-Err : goal.returns-in-Err
+returns-in-Err c = serves_none _ _ c.judge-j.ensures _ _ _ c.in-Err.ensures c.no_part_with.ensures

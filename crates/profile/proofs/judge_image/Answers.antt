@@ -1,24 +1,75 @@
-use Rattle.profile.proofs.ImageLaws.{image_f, image_g, image_h, tabled_is, opening_inv, laid_whole, filled_is, opening_count}
-use Rattle.cells.proofs.Laws.{is}
+use borrow.Author.Rules.{rules}
+use native.Mathlib.Omega.{arith}
+use mathlib.Core.Path.{sym, refl}
+use Rattle.cells.proofs.Laws.{exits}
+use Rattle.profile.proofs.ImageLaws.{opening_inv, opening_no, table_is, rows_low, members_low, members_few, criteria_low, criteria_few, strings_no, row_count_no, rows_no, member_count_no, members_no, placed_no, criterion_count_no, criteria_no, trailing_no, accepts, lays}
 use Rattle.profile.proofs.judge_image.Goals as goal
 
-pub returns-in-Refused : goal.returns-in-Refused
-returns-in-Refused c = record { table_after = search image_f; laid = tt }
+pub returns-in_err-count-clause-table_after : goal.returns-in_err-count-clause-table_after
+returns-in_err-count-clause-table_after c = rw (exits c.from_residual.ensures.1) (opening_no _ _ _ c.in_err-count.ensures)
 
 pub strings-requires : goal.strings-requires
-strings-requires c =
-    let o = opening_inv _ _ (is c.open_image.ensures c.in-Is.is) in
-    (o.0, o.1, c.requires)
+strings-requires c = let o = opening_inv _ _ (sym c.in_ok-count.ensures) in (o.0, o.1, c.requires)
 
-pub returns-in-Refused-strings : goal.returns-in-Refused-strings
-returns-in-Refused-strings c = record { table_after = search image_g; laid = tt }
+pub returns-in_err-rows_at-clause-table_after : goal.returns-in_err-rows_at-clause-table_after
+returns-in_err-rows_at-clause-table_after c = rw (exits c.from_residual-in_err-rows_at.ensures.1) (strings_no _ _ c.in_ok-count.ensures _ _ c.in_err-rows_at.ensures.tabled)
 
-pub from_rows-requires : goal.from_rows-requires
-from_rows-requires c =
-    let o = opening_inv _ _ (is c.open_image.ensures c.in-Is.is) in
-    tabled_is _ _ _ _ _ o.1 c.strings.ensures.tabled c.in-Is-strings.is
+pub judge_strings-requires : goal.judge_strings-requires
+judge_strings-requires c = (table_is _ _ c.in_ok-count.ensures _ _ c.in_ok-rows_at.ensures.tabled, search rules)
 
-pub returns : goal.returns
-returns c =
-    let n = opening_count _ _ (is c.open_image.ensures c.in-Is.is) in
-    record { table_after = search image_h; laid = laid_whole _ _ _ _ _ _ c.from_rows.ensures.laid n (filled_is _ _ _ _ _ _ c.strings.ensures.filled c.in-Is-strings.is) }
+pub returns-in_err-row_count-clause-table_after : goal.returns-in_err-row_count-clause-table_after
+returns-in_err-row_count-clause-table_after c = rw (exits c.from_residual-in_err-row_count.ensures.1) (row_count_no _ _ c.in_ok-count.ensures _ _ c.in_ok-rows_at.ensures.tabled _ _ c.in_err-row_count.ensures)
+
+pub rows-requires : goal.rows-requires
+rows-requires c = rows_low _ _ c.in_ok-count.ensures _ _ c.in_ok-rows_at.ensures.tabled _ c.in_ok-row_count.ensures
+
+pub returns-in_err-members_at-clause-table_after : goal.returns-in_err-members_at-clause-table_after
+returns-in_err-members_at-clause-table_after c = rw (exits c.from_residual-in_err-members_at.ensures.1) (rows_no _ _ c.in_ok-count.ensures _ _ c.in_ok-rows_at.ensures.tabled _ c.in_ok-row_count.ensures _ _ c.in_err-members_at.ensures)
+
+pub count_at-requires-2 : goal.count_at-requires-2
+count_at-requires-2 c = omega (arith, members_low _ _ c.in_ok-count.ensures _ _ c.in_ok-rows_at.ensures.tabled _ c.in_ok-row_count.ensures _ c.in_ok-members_at.ensures)
+
+pub returns-in_err-member_count-clause-table_after : goal.returns-in_err-member_count-clause-table_after
+returns-in_err-member_count-clause-table_after c = rw (exits c.from_residual-in_err-member_count.ensures.1) (member_count_no _ _ c.in_ok-count.ensures _ _ c.in_ok-rows_at.ensures.tabled _ c.in_ok-row_count.ensures _ c.in_ok-members_at.ensures _ _ c.in_err-member_count.ensures)
+
+pub overflow_add-members_at : goal.overflow_add-members_at
+overflow_add-members_at c = omega (arith, members_low _ _ c.in_ok-count.ensures _ _ c.in_ok-rows_at.ensures.tabled _ c.in_ok-row_count.ensures _ c.in_ok-members_at.ensures)
+
+pub members-requires : goal.members-requires
+members-requires c = (members_low _ _ c.in_ok-count.ensures _ _ c.in_ok-rows_at.ensures.tabled _ c.in_ok-row_count.ensures _ c.in_ok-members_at.ensures, (rows_low _ _ c.in_ok-count.ensures _ _ c.in_ok-rows_at.ensures.tabled _ c.in_ok-row_count.ensures).1, members_few _ _ c.in_ok-count.ensures _ _ c.in_ok-rows_at.ensures.tabled _ c.in_ok-row_count.ensures _ c.in_ok-members_at.ensures _ c.in_ok-member_count.ensures, refl)
+
+pub returns-in_err-criteria_at-clause-table_after : goal.returns-in_err-criteria_at-clause-table_after
+returns-in_err-criteria_at-clause-table_after c = rw (exits c.from_residual-in_err-criteria_at.ensures.1) (members_no _ _ c.in_ok-count.ensures _ _ c.in_ok-rows_at.ensures.tabled _ c.in_ok-row_count.ensures _ c.in_ok-members_at.ensures _ c.in_ok-member_count.ensures _ _ c.in_err-criteria_at.ensures)
+
+pub all_placed-requires : goal.all_placed-requires
+all_placed-requires c = let r = rows_low _ _ c.in_ok-count.ensures _ _ c.in_ok-rows_at.ensures.tabled _ c.in_ok-row_count.ensures in (r.1, omega arith)
+
+pub returns-in_err-all_placed-clause-table_after : goal.returns-in_err-all_placed-clause-table_after
+returns-in_err-all_placed-clause-table_after c = rw (exits c.from_residual-in_err-all_placed.ensures.1) (placed_no _ _ c.in_ok-count.ensures _ _ c.in_ok-rows_at.ensures.tabled _ c.in_ok-row_count.ensures _ c.in_ok-members_at.ensures _ c.in_ok-member_count.ensures _ _ c.in_ok-criteria_at.ensures _ _ c.in_err-all_placed.ensures)
+
+pub count_at-requires-3 : goal.count_at-requires-3
+count_at-requires-3 c = omega (arith, criteria_low _ _ c.in_ok-count.ensures _ _ c.in_ok-rows_at.ensures.tabled _ c.in_ok-row_count.ensures _ c.in_ok-members_at.ensures _ c.in_ok-member_count.ensures _ _ c.in_ok-criteria_at.ensures)
+
+pub returns-in_err-criterion_count-clause-table_after : goal.returns-in_err-criterion_count-clause-table_after
+returns-in_err-criterion_count-clause-table_after c = rw (exits c.from_residual-in_err-criterion_count.ensures.1) (criterion_count_no _ _ c.in_ok-count.ensures _ _ c.in_ok-rows_at.ensures.tabled _ c.in_ok-row_count.ensures _ c.in_ok-members_at.ensures _ c.in_ok-member_count.ensures _ _ c.in_ok-criteria_at.ensures c.in_ok-all_placed.ensures _ _ c.in_err-criterion_count.ensures)
+
+pub overflow_add-criteria_at : goal.overflow_add-criteria_at
+overflow_add-criteria_at c = omega (arith, criteria_low _ _ c.in_ok-count.ensures _ _ c.in_ok-rows_at.ensures.tabled _ c.in_ok-row_count.ensures _ c.in_ok-members_at.ensures _ c.in_ok-member_count.ensures _ _ c.in_ok-criteria_at.ensures)
+
+pub criteria-requires : goal.criteria-requires
+criteria-requires c = (criteria_low _ _ c.in_ok-count.ensures _ _ c.in_ok-rows_at.ensures.tabled _ c.in_ok-row_count.ensures _ c.in_ok-members_at.ensures _ c.in_ok-member_count.ensures _ _ c.in_ok-criteria_at.ensures, criteria_few _ _ c.in_ok-count.ensures _ _ c.in_ok-rows_at.ensures.tabled _ c.in_ok-row_count.ensures _ c.in_ok-members_at.ensures _ c.in_ok-member_count.ensures _ _ c.in_ok-criteria_at.ensures c.in_ok-all_placed.ensures _ c.in_ok-criterion_count.ensures)
+
+pub returns-in_err-end-clause-table_after : goal.returns-in_err-end-clause-table_after
+returns-in_err-end-clause-table_after c = rw (exits c.from_residual-in_err-end.ensures.1) (criteria_no _ _ c.in_ok-count.ensures _ _ c.in_ok-rows_at.ensures.tabled _ c.in_ok-row_count.ensures _ c.in_ok-members_at.ensures _ c.in_ok-member_count.ensures _ _ c.in_ok-criteria_at.ensures c.in_ok-all_placed.ensures _ c.in_ok-criterion_count.ensures _ _ c.in_err-end.ensures)
+
+pub returns-in_err-must-clause-table_after : goal.returns-in_err-must-clause-table_after
+returns-in_err-must-clause-table_after c = rw (exits c.from_residual-in_err-must.ensures.1) (trailing_no _ _ c.in_ok-count.ensures _ _ c.in_ok-rows_at.ensures.tabled _ c.in_ok-row_count.ensures _ c.in_ok-members_at.ensures _ c.in_ok-member_count.ensures _ _ c.in_ok-criteria_at.ensures c.in_ok-all_placed.ensures _ c.in_ok-criterion_count.ensures _ c.in_ok-end.ensures _ _ c.in_err-must.ensures)
+
+pub overflow_add-result-3 : goal.overflow_add-result-3
+overflow_add-result-3 c = omega (arith, criteria_low _ _ c.in_ok-count.ensures _ _ c.in_ok-rows_at.ensures.tabled _ c.in_ok-row_count.ensures _ c.in_ok-members_at.ensures _ c.in_ok-member_count.ensures _ _ c.in_ok-criteria_at.ensures)
+
+pub returns-clause-table_after : goal.returns-clause-table_after
+returns-clause-table_after c = accepts _ _ c.in_ok-count.ensures _ _ c.in_ok-rows_at.ensures.tabled _ c.in_ok-row_count.ensures _ c.in_ok-members_at.ensures _ c.in_ok-member_count.ensures _ _ c.in_ok-criteria_at.ensures c.in_ok-all_placed.ensures _ c.in_ok-criterion_count.ensures _ c.in_ok-end.ensures c.in_ok-must.ensures
+
+pub returns-clause-laid : goal.returns-clause-laid
+returns-clause-laid c = lays _ _ c.in_ok-count.ensures _ _ c.in_ok-rows_at.ensures.tabled _ c.in_ok-row_count.ensures _ c.in_ok-members_at.ensures _ c.in_ok-member_count.ensures _ _ c.in_ok-criteria_at.ensures c.in_ok-all_placed.ensures _ c.in_ok-criterion_count.ensures _ c.in_ok-end.ensures c.in_ok-must.ensures _ c.in_ok-rows_at.ensures.filled

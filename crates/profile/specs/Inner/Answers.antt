@@ -1,6 +1,8 @@
 -- What each case of the judgement says, in the paper's numbers, and how the judgement goes from a section on.
-use Rattle.std.specs.Prelude.{ℕ, ◌+◌, List, ◌++◌, length, drop, ◌≡◌, leb, eqb}
+use Rattle.std.specs.Prelude.{ℕ, ◌+◌, List, ◌++◌, length, drop, ◌≡◌, leb, eqb, Result, Ok, Err}
 use Rattle.cells.specs.Inner.Out.{Out, good, bad, must, ◌>>=◌, ◌>>◌}
+use Rattle.cells.specs.Inner.Answers.{number_of}
+use Rattle.cells.specs.declared.Refusal.{Refusal}
 use Rattle.cells.specs.Inner.Places.{u8, word, counted, texts, offsets}
 use Rattle.entries.specs.Inner.Places.{reading_rows, reading_members, reading_criteria, placed, has, spaced, row_numbers, member_numbers, criterion_numbers}
 use Rattle.entries.specs.declared.Row.{Row}
@@ -8,8 +10,6 @@ use Rattle.entries.specs.declared.Member.{Member}
 use Rattle.profile.specs.Written.{Entries}
 use Rattle.profile.specs.Inner.Decoded.{layout}
 use Rattle.profile.specs.declared.Layout.{Layout}
-use Rattle.profile.specs.declared.Judged.{Judged}
-use Rattle.profile.specs.declared.Judged.TheVariants.{Accepted}
 
 -- ---- the judgement, from a section on
 
@@ -49,19 +49,11 @@ profile_at s table y = record {
   criteria = spaced (criterion_numbers s) 15 y.criteria y.criterion_count;
 }
 
-abbrev pub judged_out : Judged → List ℕ → List ℕ → Out Entries
-judged_out (Accepted y) s table = good (profile_at s table y)
-judged_out (Judged.Refused m p) s table = bad m p
+abbrev pub judged_out : Result Layout Refusal → List ℕ → List ℕ → Out Entries
+judged_out (Ok y) s table = good (profile_at s table y)
+judged_out (Err e) s table = bad (number_of e.fault) e.place
 
--- the layout of an accepted image is z
-abbrev pub laid_as : Judged → Layout → Type 0
-laid_as (Accepted y) z = y ≡ z
-laid_as (Judged.Refused m p) z = Unit {0}
-
-pub record LaidAs (r : Judged) (z : Layout) : Type 0 where
-  pub says : laid_as r z
-
--- of the whole, with the table of its strings
-abbrev pub Laid : Judged → List ℕ → List ℕ → List ℕ → Type 0
-Laid (Accepted y) s before table = (y ≡ layout s) × (table ≡ offsets s (word s 1) 3 ++ drop (word s 1) before)
-Laid (Judged.Refused m p) s before table = Unit {0}
+-- the layout of an accepted image, and the table of its strings
+abbrev pub Laid : Result Layout Refusal → List ℕ → List ℕ → List ℕ → Type 0
+Laid (Ok y) s before table = (y ≡ layout s) × (table ≡ offsets s (word s 1) 3 ++ drop (word s 1) before)
+Laid (Err e) s before table = Unit {0}

@@ -37,28 +37,6 @@ layout s =
       criterion_count = word s criteria;
     }
 
--- the same from section four's count on, from section three's and from section two's
-abbrev pub laid_criteria : List ℕ → Layout → ℕ → Layout
-laid_criteria s y at = record {
-  edition = byte s 0;
-  strings = y.strings;
-  rows = y.rows;
-  row_count = y.row_count;
-  members = y.members;
-  member_count = y.member_count;
-  criteria = at + 2;
-  criterion_count = word s at;
-}
-
-abbrev pub laid_members : List ℕ → ℕ → ℕ → ℕ → ℕ → Layout
-laid_members s strings rows n at =
-    laid_criteria s
-    (record { edition = 0; strings = strings; rows = rows; row_count = n; members = at + 2; member_count = word s at; criteria = 0; criterion_count = 0 })
-    (at + 2 + 4 * word s at)
-
-abbrev pub laid_rows : List ℕ → ℕ → ℕ → Layout
-laid_rows s strings at = laid_members s strings (at + 2) (word s at) (at + 2 + 7 * word s at)
-
 -- ---- what they are
 
 -- a string at the place of its length

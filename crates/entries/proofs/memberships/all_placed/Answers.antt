@@ -1,17 +1,13 @@
-use Rattle.entries.proofs.MemberLoop.{placed_first, placed_none, placed_many, placed_more, placed_end}
+use Rattle.cells.proofs.Laws.{exits}
+use Rattle.entries.proofs.MemberLoop.{placed_bad, placed_more, placed_end}
 use Rattle.entries.proofs.memberships.all_placed.Goals as goal
 
-pub loop-k-init : goal.loop-k-init
-loop-k-init c = placed_first _ _ _
-
-pub returns-then-c-lt1 : goal.returns-then-c-lt1
-returns-then-c-lt1 c = search placed_none
-
-pub returns-then-c-gt8 : goal.returns-then-c-gt8
-returns-then-c-gt8 c = search placed_many
+pub returns-in_err-must : goal.returns-in_err-must
+returns-in_err-must c =
+    rw (exits c.from_residual.ensures.1) (search (placed_bad, c.in_err-must.ensures))
 
 pub loop-k-preserved : goal.loop-k-preserved
-loop-k-preserved c = search placed_more
+loop-k-preserved c = search (placed_more, c.in_ok-must.ensures)
 
 pub returns : goal.returns
 returns c = search placed_end

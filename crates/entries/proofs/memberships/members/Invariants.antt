@@ -1,9 +1,5 @@
-use Prim.Native.Nat.{◌-◌}
 use Rattle.entries.proofs.MemberLoop.{MemberHead}
 use Rattle.entries.proofs.memberships.members.Given as goal
 
 abbrev pub invariant-loop-k : goal.invariant-loop-k
-invariant-loop-k l = MemberHead l.s l.rows l.n l.start l.counts l.at l.row l.group l.k
-
-abbrev pub decreases-loop-k : goal.decreases-loop-k
-decreases-loop-k l = l.n - l.k
+invariant-loop-k l = MemberHead l.s l.rows l.n l.start l.counts l.last l.k
