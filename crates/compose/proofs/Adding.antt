@@ -12,7 +12,7 @@ use Rattle.cells.specs.Inner.Places.{word, text_at, texts}
 use Rattle.cells.specs.Inner.Answers.{Table}
 use Rattle.compose.specs.Composing.{index_of}
 use Rattle.compose.specs.Inner.Storing.{StoredAt, Strings, Adds}
-use Rattle.compose.specs.declared.strings.Added.TheVariants.{New}
+use Rattle.std.specs.Prelude.{Some}
 
 map_same : {B : Type 0} (f g : ℕ → B) (l : List ℕ) → ((k : ℕ) → k < length l → f (get_or l k 0) ≡ g (get_or l k 0)) → map f l ≡ map g l
 map_same f g [] h = refl
@@ -90,7 +90,7 @@ module _ (d image table image' : List ℕ) (n at : ℕ) (s : Strings image table
       ∙ ap₂ (λ (x : List (List ℕ)) (y : List ℕ). x ++ (y ∷ [])) old_texts t.text
 
   pub added : (e k : ℕ) → e ≡ at + 2 + length d → k ≡ index_of d (texts image n table) → n ≤ k
-      → Adds d image table n at image' (set table n at) (New e)
+      → Adds d image table n at image' (set table n at) (Some e)
   added e k f g h = (
     record { tabled = tabled'; below = λ j i. subst⁻¹ (λ (x : ℕ). get_or (set table n at) j 0 + 2 + word image' (get_or (set table n at) j 0) ≤ x) f (each_below j i); inside = omega (arith, f, room, t.long) },
     more_texts,

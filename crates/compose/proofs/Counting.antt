@@ -8,7 +8,7 @@ use mathlib.Core.List.{List, [], ◌∷◌}
 use lib.Dec.{T, leb, leb→le, nleb→lt}
 use lib.ListN.{length, get_or, drop, drop_of_length-le}
 use lib.Seq.{drop-cons}
-use borrow.Author.Tests.{le-leb, lt-leb}
+use borrow.Author.Tests.{le-leb}
 use Rattle.octets.specs.Lists.{pick}
 use Rattle.octets.proofs.Tests.{test_cases, T_of}
 use Rattle.scan.specs.Table.{decimal}
@@ -16,9 +16,6 @@ use Rattle.compose.specs.Inner.Values.{capped, value_of}
 
 pub capped_small : (n : ℕ) → n ≤ 4294967296 → n ≡ capped n
 capped_small n h = rw (le-leb n 4294967296 h)
-
-pub capped_large : (n : ℕ) → 4294967296 < n → 4294967296 ≡ capped n
-capped_large n h = rw (lt-leb n 4294967296 h)
 
 pub capped_under : (n : ℕ) → capped n ≤ 4294967296
 capped_under n =

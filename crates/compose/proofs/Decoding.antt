@@ -1,15 +1,11 @@
 -- The string that the bytes between its tags say.
 use mathlib.Core.Path.{◌≡◌, refl, sym, ap, ◌∙◌, subst⁻¹}
-use mathlib.Core.Bool.{Bool}
 use Prim.Native.Nat.{ℕ, zero, suc, ◌+◌, ◌-◌, ◌≤◌, ◌<◌}
-use native.Mathlib.Numerals.{add-one}
 use native.Mathlib.Omega.{arith}
 use mathlib.Core.List.{List, [], ◌∷◌}
 use lib.Dec.{eqb}
 use lib.ListN.{length, get_or, drop, drop_of_length-le, length-drop}
-use lib.Seq.{drop-cons, drop-drop, get_or-drop}
-use borrow.Author.Tests.{eq-eqb, ne_eqb}
-use Rattle.octets.specs.Lists.{pick}
+use lib.Seq.{drop-cons, drop-drop}
 use Rattle.octets.proofs.Tests.{either}
 use Rattle.compose.specs.Inner.Values.{as_character, entity_of, character_of, decoded_by, decoded}
 use Rattle.compose.specs.declared.values.Character.{Character}
@@ -68,49 +64,6 @@ decoded_at t i h c e =
 pub decoded_past : (t : List ℕ) (i : ℕ) → length t ≤ i → decoded (drop i t) ≡ []
 unfolding decoded
 decoded_past t i h = ap decoded (drop_of_length-le t h)
-
--- ---- a character at a place
-
-front : (t : List ℕ) (i k : ℕ) → get_or (drop i t) k 0 ≡ get_or t (i + k) 0
-front t i k = get_or-drop i t k 0
-
-module _ (t : List ℕ) (i : ℕ) (b : ℕ) (e : b ≡ get_or t i 0) where
-  first_is : b ≡ get_or (drop i t) 0 0
-  first_is = let z : i ≡ i + 0 = omega arith in e ∙ ap (λ (n : ℕ). get_or t n 0) z ∙ sym (front t i 0)
-
-  pub entity_lt : b ≡ 108 → as_character 60 4 ≡ entity_of (drop i t)
-  entity_lt f = rw (eq-eqb (get_or (drop i t) 0 0) 108 (sym first_is ∙ f))
-
-  pub entity_gt : (b ≡ 108 → ⊥) → b ≡ 103 → as_character 62 4 ≡ entity_of (drop i t)
-  entity_gt n f = rw (ne_eqb (get_or (drop i t) 0 0) 108 (λ q. n (first_is ∙ q)), eq-eqb (get_or (drop i t) 0 0) 103 (sym first_is ∙ f))
-
-  pub entity_quot : (b ≡ 108 → ⊥) → (b ≡ 103 → ⊥) → b ≡ 113 → as_character 34 6 ≡ entity_of (drop i t)
-  entity_quot n m f =
-      rw (ne_eqb (get_or (drop i t) 0 0) 108 (λ q. n (first_is ∙ q)), ne_eqb (get_or (drop i t) 0 0) 103 (λ q. m (first_is ∙ q)), eq-eqb (get_or (drop i t) 0 0) 113 (sym first_is ∙ f))
-
-  module _ (n : b ≡ 108 → ⊥) (m : b ≡ 103 → ⊥) (l : b ≡ 113 → ⊥) (c : ℕ) (g : c ≡ get_or t (i + 1) 0) where
-    second_is : c ≡ get_or (drop i t) 1 0
-    second_is = g ∙ sym (front t i 1)
-
-    pub entity_amp : c ≡ 109 → as_character 38 5 ≡ entity_of (drop i t)
-    entity_amp f =
-        rw (ne_eqb (get_or (drop i t) 0 0) 108 (λ q. n (first_is ∙ q)), ne_eqb (get_or (drop i t) 0 0) 103 (λ q. m (first_is ∙ q)), ne_eqb (get_or (drop i t) 0 0) 113 (λ q. l (first_is ∙ q)), eq-eqb (get_or (drop i t) 1 0) 109 (sym second_is ∙ f))
-
-    pub entity_apos : (c ≡ 109 → ⊥) → as_character 39 6 ≡ entity_of (drop i t)
-    entity_apos f =
-        rw (ne_eqb (get_or (drop i t) 0 0) 108 (λ q. n (first_is ∙ q)), ne_eqb (get_or (drop i t) 0 0) 103 (λ q. m (first_is ∙ q)), ne_eqb (get_or (drop i t) 0 0) 113 (λ q. l (first_is ∙ q)), ne_eqb (get_or (drop i t) 1 0) 109 (λ q. f (second_is ∙ q)))
-
-module _ (t : List ℕ) (i : ℕ) (h : i < length t) where
-  here : character_of (drop i t) ≡ pick (eqb (get_or t i 0) 38) (entity_of (drop (suc i) t)) (as_character (get_or t i 0) 1)
-  here = ap character_of (drop-cons t i 0 h)
-
-  pub character_entity : get_or t i 0 ≡ 38 → (c : Character) → c ≡ entity_of (drop (i + 1) t) → c ≡ character_of (drop i t)
-  character_entity f c e =
-      e ∙ ap (λ (n : ℕ). entity_of (drop n t)) (add-one i)
-      ∙ sym (here ∙ ap (λ (b : Bool). pick b (entity_of (drop (suc i) t)) (as_character (get_or t i 0) 1)) (eq-eqb (get_or t i 0) 38 f))
-
-  pub character_plain : (get_or t i 0 ≡ 38 → ⊥) → as_character (get_or t i 0) 1 ≡ character_of (drop i t)
-  character_plain f = sym (here ∙ ap (λ (b : Bool). pick b (entity_of (drop (suc i) t)) (as_character (get_or t i 0) 1)) (ne_eqb (get_or t i 0) 38 f))
 
 -- ---- the loop that counts
 

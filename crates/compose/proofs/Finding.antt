@@ -29,12 +29,12 @@ pub finding_first : (t s : List ℕ) (n : ℕ) (table : List ℕ) → Table s n 
 finding_first t s n table h = record { inside = omega arith; tabled = h; same_so = omega arith }
 
 module _ (t s : List ℕ) (n : ℕ) (table : List ℕ) (k : ℕ) (f : Finding t s n table k) where
-  pub finding_end : n ≤ k → k ≡ index_of t (texts s n table)
+  pub finding_end : n ≤ k → n ≡ index_of t (texts s n table)
   finding_end h =
       let l : length (texts s n table) ≡ n = texts_length s n table f.tabled in
       let m : length (texts s n table) ≤ k = omega (arith, l, h) in
       let e : index_of t (drop k (texts s n table)) ≡ 0 = ap (index_of t) (drop_of_length-le (texts s n table) m) in
-      omega (arith, e, f.same_so)
+      omega (arith, h, e, f.inside, f.same_so)
 
   module _ (h : k < n) (x : List ℕ) (e : x ≡ (string_of (stored_in s n table) k).bytes) (b : Bool) (g : b ≡ same t x) where
     opened : index_of t (drop k (texts s n table)) ≡ pick b 0 (suc (index_of t (drop (suc k) (texts s n table))))

@@ -6,6 +6,8 @@ use native.Mathlib.Omega.{arith}
 use mathlib.Core.List.{List, ◌++◌, append_assoc}
 use lib.ListN.{length, get_or, take, drop, set, length-set, get_or-append}
 use lib.Seq.{paste, length-paste, length_paste_head, drop-paste, take_at, drop_at, take-take, take-set-le, drop-set-lt, get_or-take, get_or-set_same, get_or-set_other, take-length, length-take-le, take-append-le}
+use Rattle.std.proofs.Common.{w16}
+use Rattle.std.specs.Int.{to_be_bytes}
 use Rattle.cells.specs.Inner.Places.{word}
 use Rattle.compose.specs.Inner.Storing.{StoredAt}
 
@@ -85,8 +87,8 @@ module _ (d before : List ℕ) (at n : ℕ) (room : at + 2 + length d ≤ length
       ap₂ (λ (x y : ℕ). x * 256 + y) (high_is d before at (n / 256 % 256) (n % 256) room) (low_is d before at (n / 256 % 256) (n % 256) room)
       ∙ two_bytes n (subst⁻¹ (λ (x : ℕ). x < 65536) e k)
 
-  pub stores : (after : List ℕ) → after ≡ paste (set (set before at (n / 256 % 256)) (at + 1) (n % 256)) (at + 2) d (length d) → StoredAt d at before after
-  stores after f = subst⁻¹ (StoredAt d at before) f (record {
+  stores_by : (after : List ℕ) → after ≡ paste (set (set before at (n / 256 % 256)) (at + 1) (n % 256)) (at + 2) d (length d) → StoredAt d at before after
+  stores_by after f = subst⁻¹ (StoredAt d at before) f (record {
     long = stored_long d before at (n / 256 % 256) (n % 256) room;
     kept = kept_is d before at (n / 256 % 256) (n % 256) room;
     sized = word_is ∙ e;
@@ -94,8 +96,18 @@ module _ (d before : List ℕ) (at n : ℕ) (room : at + 2 + length d ≤ length
     beyond = beyond_is d before at (n / 256 % 256) (n % 256) room;
   })
 
-  pub stores_long : (after : List ℕ) → after ≡ paste (set (set before at (n / 256 % 256)) (at + 1) (n % 256)) (at + 2) d (length d) → length after ≡ length before
-  stores_long after f = (stores after f).long
+  module _ (bs : List ℕ) (f : bs ≡ to_be_bytes w16 n) where
+    high_byte : get_or bs 0 0 ≡ n / 256 % 256
+    high_byte = ap (λ (l : List ℕ). get_or l 0 0) f
+
+    low_byte : get_or bs 1 0 ≡ n % 256
+    low_byte = ap (λ (l : List ℕ). get_or l 1 0) f
+
+    pub stores : (after : List ℕ) → after ≡ paste (set (set before at (get_or bs 0 0)) (at + 1) (get_or bs 1 0)) (at + 2) d (length d) → StoredAt d at before after
+    stores after g = stores_by after (g ∙ ap₂ (λ (h l : ℕ). paste (set (set before at h) (at + 1) l) (at + 2) d (length d)) high_byte low_byte)
+
+    pub stores_long : (after : List ℕ) → after ≡ paste (set (set before at (get_or bs 0 0)) (at + 1) (get_or bs 1 0)) (at + 2) d (length d) → length after ≡ length before
+    stores_long after g = (stores after g).long
 
 pub second_inside : (d before : List ℕ) (at h : ℕ) → at + 2 + length d ≤ length before → at + 1 < length (set before at h)
 second_inside d before at h r = let e : length (set before at h) ≡ length before = length-set before at h in omega (arith, e, r)

@@ -7,6 +7,6 @@ mod telling;
 mod values;
 
 pub use crate::groups::{Groups, with_group};
-pub use crate::strings::{Added, add_text, find_text};
+pub use crate::strings::{add_text, find_text};
 pub use crate::telling::{Value, pass_value};
 pub use crate::values::value_of;

@@ -14,14 +14,12 @@ pub fn find_text(t: &[u8], image: &[u8], table: &[u16; 1024], n: usize) -> usize
     requires { Table image.now n table.now }
     ensures { result ≡ index_of (decoded t.now) (texts image.now n table.now) }
 {
-    let mut k: usize = 0;
-    while k < n {
+    for k in 0..n {
         if same_text(t, profile::string_bytes(image, table, n, k)) {
             return k;
         }
-        k += 1;
     }
-    k
+    n
 }
 
 // Stores a string behind its length; what stands behind it.
@@ -29,29 +27,28 @@ pub fn store_text(t: &[u8], image: &mut [u8], at: usize) -> usize
     requires { (at + 2 + length (decoded t.now) ≤ length image.old) × (length (decoded t.now) < 65536) }
     ensures { (result ≡ at + 2 + length (decoded t.now)) × StoredAt (decoded t.now) at image.old image.new }
 {
-    let n = text_length(t);
-    image[at] = (n / 256 % 256) as u8;
-    image[at + 1] = (n % 256) as u8;
+    let [high, low] = (text_length(t) as u16).to_be_bytes();
+    image[at] = high;
+    image[at + 1] = low;
     put_text(t, image, at + 2)
 }
 
-// A string that is among those stored, or one that was stored, with what stands behind it.
-#[derive(Clone, Copy)]
-pub enum Added {
-    Known,
-    New(usize),
-}
-
-// "Equal strings are stored once": a string is stored behind the others, unless it is among them.
-pub fn add_text(t: &[u8], image: &mut [u8], table: &mut [u16; 1024], n: usize, at: usize) -> Added
+// "Equal strings are stored once": a string is stored behind the others, unless it is among them; what stands behind it, if it was stored.
+pub fn add_text(
+    t: &[u8],
+    image: &mut [u8],
+    table: &mut [u16; 1024],
+    n: usize,
+    at: usize,
+) -> Option<usize>
     requires { Strings image.old table.old n at × (n < 1024) × (at < 65536) × (at + 2 + length (decoded t.now) ≤ length image.old) × (length (decoded t.now) < 65536) }
     ensures { Adds (decoded t.now) image.old table.old n at image.new table.new result }
 {
     let k = find_text(t, image, table, n);
     if k < n {
-        return Added::Known;
+        return None;
     }
     let e = store_text(t, image, at);
     table[n] = at as u16;
-    Added::New(e)
+    Some(e)
 }

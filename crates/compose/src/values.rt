@@ -10,11 +10,7 @@ use octets::byte_at;
 fn digit_of(b: u8) -> u64
     ensures { (result ≡ b - 48) × (result < 256) }
 {
-    if b < 48 {
-        return 0;
-    }
-    let d = b - 48;
-    d as u64
+    u64::from(b.saturating_sub(b'0'))
 }
 
 // One digit more, as far as numbers are told apart.
@@ -23,24 +19,16 @@ fn with_digit(n: u64, d: u64) -> u64
     ensures { result ≡ capped (n * 10 + d) }
 {
     let v = n * 10 + d;
-    if v <= 4294967296 {
-        return v;
-    }
-    4294967296
+    v.min(4294967296)
 }
 
 // The number that digits say, by its exact value, or 4,294,967,296 where it is larger.
 pub fn value_of(t: &[u8]) -> u64
     ensures { result ≡ value_of t.now }
 {
-    let mut n: u64 = 0;
-    let mut i: usize = 0;
-    while i < t.len() {
-        let b = t[i];
-        i += 1;
-        let d = digit_of(b);
-        let v = with_digit(n, d);
-        n = v;
+    let mut n = 0;
+    for b in t {
+        n = with_digit(n, digit_of(*b));
     }
     n
 }
@@ -57,21 +45,28 @@ fn entity_at(t: &[u8], i: usize) -> Character
     requires { i ≤ length t.now }
     ensures { result ≡ entity_of (drop i t.now) }
 {
-    let b = byte_at(t, i);
-    if b == 108 {
-        return Character { byte: 60, width: 4 };
+    match byte_at(t, i) {
+        b'l' => Character {
+            byte: b'<',
+            width: 4,
+        },
+        b'g' => Character {
+            byte: b'>',
+            width: 4,
+        },
+        b'q' => Character {
+            byte: b'"',
+            width: 6,
+        },
+        _ if byte_at(t, i + 1) == b'm' => Character {
+            byte: b'&',
+            width: 5,
+        },
+        _ => Character {
+            byte: b'\'',
+            width: 6,
+        },
     }
-    if b == 103 {
-        return Character { byte: 62, width: 4 };
-    }
-    if b == 113 {
-        return Character { byte: 34, width: 6 };
-    }
-    let c = byte_at(t, i + 1);
-    if c == 109 {
-        return Character { byte: 38, width: 5 };
-    }
-    Character { byte: 39, width: 6 }
 }
 
 // The character at a place.
@@ -79,11 +74,10 @@ fn character_at(t: &[u8], i: usize) -> Character
     requires { i < length t.now }
     ensures { result ≡ character_of (drop i t.now) }
 {
-    let b = t[i];
-    if b == 38 {
-        return entity_at(t, i + 1);
+    match t[i] {
+        b'&' => entity_at(t, i + 1),
+        byte => Character { byte, width: 1 },
     }
-    Character { byte: b, width: 1 }
 }
 
 // How long the string is.

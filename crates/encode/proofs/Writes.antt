@@ -1,19 +1,16 @@
 -- What is written: one byte, a copy, and two writes one behind the other.
-use mathlib.Core.Path.{◌≡◌, sym, ap, ap₂, ◌∙◌}
-use Prim.Native.Nat.{ℕ, ◌+◌, ◌≤◌, ◌<◌}
-use native.Mathlib.Numerals.{add-one}
+use mathlib.Core.Path.{◌≡◌, refl, sym, ap, ap₂, ◌∙◌, subst, subst⁻¹}
+use Prim.Native.Nat.{ℕ, ◌+◌, ◌-◌, ◌≤◌, ◌<◌}
+use borrow.Rule.Slice.PartMut.{put_mid}
+use Rattle.std.proofs.lemmas.Slice.{put_mid-paste}
 use native.Mathlib.Omega.{arith}
-use mathlib.Core.List.{List, [], ◌∷◌, ◌++◌, append_assoc}
-use lib.ListN.{length, get_or, take, drop, set, length-set, length-append, take-append-drop}
-use lib.Seq.{paste, take-take, take-add, take_at, drop_at, get_or-take, get_or-drop, length-take-le, take-length, take-suc-set, drop-set-lt, drop-drop, length-paste, take-paste, drop-paste}
+use mathlib.Core.List.{List, ◌++◌, append_assoc}
+use lib.ListN.{length, get_or, take, drop, length-append, length-drop, take-append-drop}
+use lib.Seq.{paste, take-take, take-add, take_at, drop_at, get_or-take, get_or-drop, length-take-le, take-length, drop-drop, length-paste, take-paste, drop-paste}
 use Rattle.encode.specs.Inner.Wrote.{Wrote}
 
-pub one_wrote : (x : List ℕ) (to b : ℕ) → to + 1 ≤ length x → Wrote (b ∷ []) to x (set x to b)
-one_wrote x to b h = record {
-  long = length-set x to b;
-  here = ap (λ (n : ℕ). take n (set x to b)) (add-one to) ∙ take-suc-set x to b (omega (arith, h));
-  beyond = drop-set-lt (to + 1) x to b (omega arith);
-}
+pub wrote_as : {bytes same x y : List ℕ} {to : ℕ} → bytes ≡ same → Wrote bytes to x y → Wrote same to x y
+wrote_as {bytes} {same} {x} {y} {to} e w = subst (λ (l : List ℕ). Wrote l to x y) e w
 
 pub pasted : (x bytes : List ℕ) (to : ℕ) → to + length bytes ≤ length x → Wrote bytes to x (paste x to bytes (length bytes))
 pasted x bytes to h = record {
@@ -21,6 +18,15 @@ pasted x bytes to h = record {
   here = take-paste x to bytes (length bytes) (omega (arith, h)) (omega arith) ∙ ap (λ (l : List ℕ). take to x ++ l) (take-length bytes);
   beyond = drop-paste x to bytes (length bytes) (omega (arith, h)) (omega arith);
 }
+
+-- a copy to a part of the list
+pub put_wrote : (x bytes now : List ℕ) (to n : ℕ) → to + n ≤ length x → length now ≡ length (take (to + n - to) (drop to x)) → now ≡ bytes
+    → Wrote bytes to x (put_mid to (to + n - to) x now)
+put_wrote x bytes now to n h l e =
+    let room : length (drop to x) ≡ length x - to = length-drop to x in
+    let part : length (take (to + n - to) (drop to x)) ≡ to + n - to = length-take-le (to + n - to) (drop to x) (omega arith) in
+    let size : length bytes ≡ to + n - to = ap length (sym e) ∙ l ∙ part in
+    subst⁻¹ (Wrote bytes to x) (put_mid-paste to (to + n - to) x now bytes (length bytes) e size refl) (pasted x bytes to (omega arith))
 
 pub wrote_is : {bytes x y : List ℕ} {to : ℕ} → Wrote bytes to x y → y ≡ paste x to bytes (length bytes)
 wrote_is {bytes} {x} {y} {to} w =

@@ -1,8 +1,8 @@
 // The plain matcher (document 02, change request 7). It goes over the pattern's bytes where they stand and "tries the choices one after
 // the other, on a shorter pattern or a shorter text at each turn". With each `*` there can be many times as many choices.
 //
-// It calls three functions from below: `is_pattern(p)` says whether p is a pattern at all, `peek_at(s, i)` is the byte at i of s, or 256
-// past its end, and `to_long(n)` is n in four bytes. Behind `is_pattern` no fault is looked for.
+// It calls two functions from below: `is_pattern(p)` says whether p is a pattern at all, and `peek_at(s, i)` is the byte at i of s, or 256
+// past its end. Behind `is_pattern` no fault is looked for.
 // The bytes are 36 `$`, 42 `*`, 45 `-`, 46 `.`, 91 `[`, 92 `\`, 93 `]`, 94 `^`.
 #![tactic(auto)]
 
@@ -14,7 +14,6 @@ ghost use Rattle.place.specs.Place.{one_more, longer};
 ghost use Rattle.plain.specs.Inner.Turns.{Short, Ranged, Tried, Reaches, Finds, told, taken};
 
 use basic::{is_pattern, peek_at};
-use octets::to_long;
 
 // The refusal number, whether some part fits, the place of its first byte and how many bytes it has.
 #[derive(Clone, Copy)]
@@ -154,8 +153,8 @@ fn tell(refusal: u32, found: bool, start: usize, size: usize) -> Answer
     Answer {
         refusal,
         found,
-        start: to_long(start),
-        size: to_long(size),
+        start: start as u32,
+        size: size as u32,
     }
 }
 

@@ -2,8 +2,6 @@
 ghost use Rattle.std.specs.Prelude.{◌≡◌, ◌<◌, get_or};
 ghost use Rattle.scan.specs.Inner.Points.{firsts, starts, nexts, letters};
 
-use octets::{from_byte, from_word};
-
 // The number of each point's first word; those of the next point follow.
 const FIRST: [u8; 43] = [
     0, 2, 4, 7, 9, 12, 14, 16, 18, 21, 24, 26, 33, 36, 39, 41, 43, 46, 48, 50, 53, 55, 57, 61, 64,
@@ -93,21 +91,21 @@ pub fn first_of(q: usize) -> usize
     requires { q < 43 }
     ensures { result ≡ get_or firsts q 0 }
 {
-    from_byte(FIRST[q])
+    usize::from(FIRST[q])
 }
 
 pub fn start_of(j: usize) -> usize
     requires { j < 124 }
     ensures { result ≡ get_or starts j 0 }
 {
-    from_word(START[j])
+    usize::from(START[j])
 }
 
 pub fn next_of(j: usize) -> usize
     requires { j < 123 }
     ensures { result ≡ get_or nexts j 0 }
 {
-    from_byte(NEXT[j])
+    usize::from(NEXT[j])
 }
 
 pub fn letter(i: usize) -> u8

@@ -1,10 +1,8 @@
 -- A string stored in an image under way.
-use Rattle.std.specs.Prelude.{◌≡◌, ℕ, ◌+◌, ◌≤◌, ◌<◌, List, [], ◌∷◌, ◌++◌, length, get_or, take, drop}
+use Rattle.std.specs.Prelude.{◌≡◌, Option, Some, None, ℕ, ◌+◌, ◌≤◌, ◌<◌, List, [], ◌∷◌, ◌++◌, length, get_or, take, drop}
 use Rattle.cells.specs.Inner.Places.{word, text_at, texts}
 use Rattle.cells.specs.Inner.Answers.{Table}
 use Rattle.compose.specs.Composing.{index_of}
-use Rattle.compose.specs.declared.strings.Added.{Added}
-use Rattle.compose.specs.declared.strings.Added.TheVariants.{Known, New}
 
 -- the string d stands at a place, behind its length; nothing else has changed
 pub record StoredAt (d : List ℕ) (at : ℕ) (before after : List ℕ) : Type 0 where
@@ -25,6 +23,6 @@ abbrev pub so_far : List ℕ → List ℕ → ℕ → List (List ℕ)
 so_far image table n = texts image n table
 
 -- the string d is among them, and nothing changes; or it is stored behind them
-abbrev pub Adds : List ℕ → List ℕ → List ℕ → ℕ → ℕ → List ℕ → List ℕ → Added → Type 0
-Adds d image table n at image' table' Known = (image' ≡ image) × (table' ≡ table) × (index_of d (so_far image table n) < n)
-Adds d image table n at image' table' (New e) = Strings image' table' (n + 1) e × (so_far image' table' (n + 1) ≡ so_far image table n ++ (d ∷ [])) × (n ≤ index_of d (so_far image table n))
+abbrev pub Adds : List ℕ → List ℕ → List ℕ → ℕ → ℕ → List ℕ → List ℕ → Option ℕ → Type 0
+Adds d image table n at image' table' None = (image' ≡ image) × (table' ≡ table) × (index_of d (so_far image table n) < n)
+Adds d image table n at image' table' (Some e) = Strings image' table' (n + 1) e × (so_far image' table' (n + 1) ≡ so_far image table n ++ (d ∷ [])) × (n ≤ index_of d (so_far image table n))

@@ -1,6 +1,0 @@
-use Rattle.encode.proofs.Writes.{wrote_both}
-use borrow.Author.Rules.{rules}
-use Rattle.encode.proofs.put_four.Goals as goal
-
-pub returns : goal.returns
-returns c = (search rules, wrote_both c.put_two-low.ensures.1 c.put_two-low.ensures.0 c.put_two.ensures.1)
