@@ -1,9 +1,10 @@
 // A pattern that was made ready for many texts.
 ghost use Rattle.std.specs.Prelude.{◌≡◌};
-ghost use Rattle.pattern.specs.Inner.Answers.{meets_text};
+ghost use Rattle.basic.specs.Inner.Judged.{is_pattern};
+ghost use Rattle.pattern.specs.Inner.Answers.{meets_text, first_fit};
 ghost use Rattle.pattern.specs.Inner.Prepared.{Ready};
 
-use crate::{load, test};
+use crate::{first_match, is_loaded, load, test};
 use machine::Shape;
 
 // Its bytes, whether it is for names, and what `load` made of them, with the sets and masks beside.
@@ -23,6 +24,20 @@ impl<'a> Prepared<'a> {
         ensures { result ≡ meets_text self.now.for_names self.now.bytes.now text.now }
     {
         test(self.shape, self.sets, self.before, text)
+    }
+
+    // Whether its bytes are a pattern at all: others match nothing.
+    pub fn is_pattern(&self) -> bool
+        ensures { result ≡ is_pattern self.now.bytes.now }
+    {
+        is_loaded(self.shape)
+    }
+
+    // The smallest place at which a part of the text that fits begins, or one above the text's length.
+    pub fn first_match(&self, text: &[u8]) -> usize
+        ensures { result ≡ first_fit self.now.for_names self.now.bytes.now text.now }
+    {
+        first_match(self.shape, self.sets, self.before, text)
     }
 }
 

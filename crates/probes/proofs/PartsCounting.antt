@@ -1,13 +1,12 @@
 -- The loop over the lines of a body, and the answer as a whole.
+use Rattle.std.specs.Prelude.{Option as Answer, None}
 use mathlib.Core.Option.{some}
 use mathlib.Core.Path.{◌≡◌, sym, ap, ◌∙◌, subst}
 use mathlib.Core.List.{List, []}
 use Prim.Native.Nat.{ℕ, ◌+◌, ◌-◌, ◌≤◌, ◌<◌}
 use native.Mathlib.Omega.{arith}
-use lib.ListN.{length, take, drop, length-drop}
-use lib.Seq.{take-length}
+use lib.ListN.{length}
 use Rattle.octets.proofs.Kept.{total_mono, total_const}
-use Rattle.cuts.specs.Inner.Parts.{part}
 use Rattle.contents.specs.Body.{session_lines}
 use Rattle.contents.specs.Inner.Places.{body_line, session_from}
 use Rattle.contents.specs.declared.BodyLine.{BodyLine}
@@ -16,11 +15,9 @@ use Rattle.contents.proofs.BodyLines.{TypedAt, OtherAt, LineSays, line_says, ses
 use Rattle.request.specs.Request.{request_lines}
 use Rattle.request.specs.Inner.Places.{Read, Placed, request_of}
 use Rattle.request.specs.declared.Places.{Places}
-use Rattle.request.specs.declared.Reading.{Reading}
-use Rattle.request.specs.declared.Reading.TheVariants.{Unreadable, Readable}
 use Rattle.request.proofs.Answers.{read_none}
 use Rattle.request.proofs.Few.{weight}
-use Rattle.request.proofs.Readings.{readable, reads_so, short, lines_inside, lines_are, fields_many, fields_few, head_inside}
+use Rattle.request.proofs.Readings.{reads_so, short, fields_many, fields_few, head_inside}
 use Rattle.probes.specs.Inner.Parts.{counted, parts, PartsTo}
 use Rattle.probes.specs.declared.counts.Parts.{Parts}
 
@@ -81,51 +78,35 @@ lining_room body p n w short = omega (arith, w.few, w.inside)
 
 -- ---- the whole
 
-module _ (s starts colons starts' colons' : List ℕ) (r : Reading) (k : Read s starts colons starts' colons' r) where
-  pub nothing_read : r ≡ Unreadable → ◌≡◌ {A = Parts} (record { refusal = 7; fields = 0; values = 0; lines = 0 }) (parts s)
+module _ (s starts colons starts' colons' : List ℕ) (r : Answer Places) (k : Read s starts colons starts' colons' r) where
+  pub nothing_read : r ≡ None → ◌≡◌ {A = Parts} (record { refusal = 7; fields = 0; values = 0; lines = 0 }) (parts s)
   unfolding parts counted
   nothing_read e = sym (ap counted (read_none s starts colons starts' colons' (subst (Read s starts colons starts' colons') e k)))
 
-  module _ (p : Places) (e : r ≡ Readable p) where
-    pub places_read : Placed s starts' colons' p
-    places_read = readable s starts colons starts' colons' r k p e
+module _ (s starts colons : List ℕ) (p : Places) (k : Placed s starts colons p) where
+  pub fields_low : p.fields < 4294967296
+  fields_low =
+      omega (
+        arith,
+        fields_many s starts colons p k,
+        fields_few s starts colons p k,
+        total_mono (λ f. 1) weight (λ f. omega arith) (request_of s).fields,
+        total_const 1 (request_of s).fields,
+        head_inside s starts colons p k,
+        short s starts colons p k,
+      )
 
-    pub lines_start : p.lines ≤ length s
-    lines_start = lines_inside s starts' colons' p places_read
-
-    abbrev rest : List ℕ
-    rest = part s p.lines (length s)
-
-    rest_is : rest ≡ drop p.lines s
-    rest_is = ap (λ (n : ℕ). take n (drop p.lines s)) (sym (length-drop p.lines s)) ∙ take-length (drop p.lines s)
-
-    pub rest_short : length rest ≤ 65535
-    rest_short = omega (arith, ap length rest_is, length-drop p.lines s, short s starts' colons' p places_read)
-
-    pub fields_low : p.fields < 4294967296
-    fields_low =
-        omega (
-          arith,
-          fields_many s starts' colons' p places_read,
-          fields_few s starts' colons' p places_read,
-          total_mono (λ f. 1) weight (λ f. omega arith) (request_of s).fields,
-          total_const 1 (request_of s).fields,
-          head_inside s starts' colons' p places_read,
-          short s starts' colons' p places_read,
-        )
-
-    pub parts_counted : (values lines n : ℕ) → values ≡ (parts s).values → lines ≡ length (session_lines rest) → n ≡ p.fields
-        → ◌≡◌ {A = Parts} (record { refusal = 0; fields = n; values = values; lines = lines }) (parts s)
-    unfolding parts counted
-    parts_counted values lines n ev el en =
-        let whole : parts s ≡ counted (some (request_of s)) = ap counted (reads_so s starts' colons' p places_read) in
-        let lines_so : lines ≡ length (request_lines (request_of s)) =
-        el ∙ ap length (ap session_lines rest_is ∙ lines_are s starts' colons' p places_read)
-        in
-        let values_so : values ≡ (counted (some (request_of s))).values = ev ∙ ap (λ (w : Parts). w.values) whole in
-        let fields_so : n ≡ length (request_of s).fields = en ∙ sym (fields_many s starts' colons' p places_read) in
-        (λ j. record { refusal = 0; fields = fields_so j; values = values_so j; lines = lines_so j })
-        ∙ sym whole
+  pub parts_counted : (values lines n : ℕ) (rest : List ℕ) → values ≡ (parts s).values → session_lines rest ≡ request_lines (request_of s)
+      → lines ≡ length (session_lines rest) → n ≡ p.fields
+      → ◌≡◌ {A = Parts} (record { refusal = 0; fields = n; values = values; lines = lines }) (parts s)
+  unfolding parts counted
+  parts_counted values lines n rest ev er el en =
+      let whole : parts s ≡ counted (some (request_of s)) = ap counted (reads_so s starts colons p k) in
+      let lines_so : lines ≡ length (request_lines (request_of s)) = el ∙ ap length er in
+      let values_so : values ≡ (counted (some (request_of s))).values = ev ∙ ap (λ (w : Parts). w.values) whole in
+      let fields_so : n ≡ length (request_of s).fields = en ∙ sym (fields_many s starts colons p k) in
+      (λ j. record { refusal = 0; fields = fields_so j; values = values_so j; lines = lines_so j })
+      ∙ sym whole
 
 pub passes : (s : List ℕ) (p : Parts) → p ≡ parts s → PartsTo s p.refusal p.fields p.values p.lines
 passes s p e = record {

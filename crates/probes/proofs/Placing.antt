@@ -7,16 +7,13 @@ use native.Mathlib.Omega.{arith}
 use lib.ListN.{length, drop, drop_of_length-le}
 use Rattle.octets.specs.Lists.{total}
 use Rattle.octets.proofs.Kept.{total_mono}
-use Rattle.cuts.specs.Inner.Parts.{part}
 use Rattle.contents.specs.Names.{name_as_matched}
 use Rattle.contents.specs.Values.{reduced, values_of}
-use Rattle.request.specs.Inner.Places.{head_of, field_parts, Placed, request_of}
+use Rattle.request.specs.Inner.Places.{Placed, request_of, FieldIs}
 use Rattle.request.specs.Request.{Request, read_request}
-use Rattle.request.specs.declared.FieldParts.{FieldParts}
 use Rattle.request.specs.declared.Places.{Places}
 use Rattle.request.proofs.Few.{weight}
-use Rattle.request.proofs.Indexing.{FieldSays}
-use Rattle.request.proofs.Readings.{reads_so, short, fields_many, fields_few, head_inside, field_said}
+use Rattle.request.proofs.Readings.{reads_so, short, fields_many, fields_few, head_inside}
 use Rattle.probes.specs.Inner.Parts.{values_in, counted, parts}
 
 -- the fields before i are counted
@@ -48,28 +45,23 @@ module _ (s starts colons : List ℕ) (p : Places) (k : Placed s starts colons p
       let none_left : drop i q.fields ≡ [] = drop_of_length-le q.fields all in
       omega (arith, w.sum q read_q, ap (total values_in) none_left, values_are s q read_q)
 
-  module _ (i : ℕ) (more : i < p.fields) where
-    module _ (f : FieldParts) (ef : f ≡ field_parts (head_of s) i) where
-      said : FieldSays s q p.head i f
-      said = field_said s starts colons p k i more f ef
+  module _ (i : ℕ) (written value : List ℕ) (f : FieldIs s i written value) (name : List ℕ) (en : name ≡ name_as_matched written) (n : ℕ) (w : Fielding s i n)
+      (r : ℕ) (er : r ≡ length (values_of name (reduced value))) where
+    at_next : n + r + total values_in (drop (i + 1) q.fields) ≡ total values_in q.fields
+    at_next =
+        omega (
+          arith,
+          w.sum q (read_q),
+          ap (total values_in) f.list,
+          er ∙ ap (λ (l : List ℕ). length (values_of l (reduced value))) en,
+        )
 
-      module _ (name : List ℕ) (en : name ≡ name_as_matched (part s f.name f.stop)) (n : ℕ) (w : Fielding s i n) (r : ℕ)
-          (er : r ≡ length (values_of name (reduced (part s f.value f.end)))) where
-        at_next : n + r + total values_in (drop (i + 1) q.fields) ≡ total values_in q.fields
-        at_next =
-            omega (
-              arith,
-              w.sum q (read_q),
-              ap (total values_in) said.list,
-              er ∙ ap (λ (l : List ℕ). length (values_of l (reduced (part s f.value f.end)))) en,
-            )
+    pub fielding_next : Fielding s (i + 1) (n + r)
+    fielding_next = record {
+      sum = λ x e.
+          let same : q ≡ x = some-injective q x (sym (read_q) ∙ e) in
+          subst (λ (y : Request). n + r + total values_in (drop (i + 1) y.fields) ≡ total values_in y.fields) same at_next;
+    }
 
-        pub fielding_next : Fielding s (i + 1) (n + r)
-        fielding_next = record {
-          sum = λ x e.
-              let same : q ≡ x = some-injective q x (sym (read_q) ∙ e) in
-              subst (λ (y : Request). n + r + total values_in (drop (i + 1) y.fields) ≡ total values_in y.fields) same at_next;
-        }
-
-        pub fielding_room : n + r < 4294967296
-        fielding_room = omega (arith, at_next, values_few)
+    pub fielding_room : n + r < 4294967296
+    fielding_room = omega (arith, at_next, values_few)

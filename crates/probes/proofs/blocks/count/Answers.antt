@@ -5,29 +5,23 @@ use native.Mathlib.Omega.{arith}
 use Rattle.probes.proofs.blocks.count.Goals as goal
 
 pub loop-at-init : goal.loop-at-init
-loop-at-init c = (omega arith, λ fold p k. counting_first _ _)
+loop-at-init c = counting_first _ _
 
-pub slice_bounds-test-end : goal.slice_bounds-test-end
-slice_bounds-test-end c = search (rules, line_inside)
+pub slice_bounds-meets-end : goal.slice_bounds-meets-end
+slice_bounds-meets-end c = search (rules, line_inside)
 
 pub overflow_add-n : goal.overflow_add-n
-overflow_add-n c =
-    omega (arith, c.one_if.ensures.1, c.from_long-n.ensures, c.loop-at.invariant.0, c.loop-at-test.true)
+overflow_add-n c = omega (arith, c.one_if.ensures.1, c.from_long-n.ensures, c.loop-at.invariant.few, c.loop-at-test.true)
 
 pub overflow_add-at : goal.overflow_add-at
-overflow_add-at c =
-    omega (arith, line_inside _ _ _ c.loop-at-test.true c.place_of-end.ensures)
+overflow_add-at c = omega (arith, line_inside _ _ _ c.loop-at-test.true c.place_of-end.ensures)
 
 pub loop-at-smaller : goal.loop-at-smaller
 loop-at-smaller c = search (rules, line_inside)
 
 pub loop-at-preserved : goal.loop-at-preserved
 loop-at-preserved c =
-    let more = c.loop-at-test.true in
-    let end = c.place_of-end.ensures in (
-      omega (arith, c.loop-at.invariant.0, c.from_long-n.ensures, c.one_if.ensures.1, end),
-      λ fold p k. counting_next _ _ _ _ more end _ (c.test-m.ensures fold p k) _ (c.from_long-n.ensures ∙ c.one_if.ensures.0) _ (c.loop-at.invariant.1 fold p k),
-    )
+    counting_next _ _ _ _ c.loop-at-test.true c.place_of-end.ensures _ c.meets-m.ensures _ (c.from_long-n.ensures ∙ c.one_if.ensures.0) _ c.loop-at.invariant
 
 pub returns : goal.returns
-returns c = λ fold p k. counting_end _ _ _ _ (c.loop-at.invariant.1 fold p k) c.loop-at-test.false
+returns c = search counting_end

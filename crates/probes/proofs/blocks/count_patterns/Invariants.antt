@@ -1,4 +1,3 @@
-use mathlib.Core.Path.{◌≡◌}
 use Prim.Native.Nat.{◌+◌, ◌-◌}
 use lib.ListN.{length}
 use Rattle.pattern.specs.Inner.Answers.{meets_text}
@@ -6,7 +5,7 @@ use Rattle.probes.proofs.Counting.{Counting}
 use Rattle.probes.proofs.blocks.count_patterns.Given as goal
 
 abbrev pub invariant-loop-at : goal.invariant-loop-at
-invariant-loop-at l = Counting (λ p. meets_text l.fold p l.text) l.block l.at l.n × (length l.sets ≡ 60) × (length l.before ≡ 60)
+invariant-loop-at l = Counting (λ p. meets_text l.fold p l.text) l.block l.at l.n
 
 abbrev pub decreases-loop-at : goal.decreases-loop-at
 decreases-loop-at l = length l.block + 1 - l.at

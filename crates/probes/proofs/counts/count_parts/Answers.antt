@@ -1,25 +1,23 @@
-use borrow.Author.Rules.{rules}
-use Rattle.request.proofs.Readings.{value_room}
-use Rattle.probes.proofs.PartsCounting.{nothing_read, lines_start, rest_short, fields_low, places_read, parts_counted}
+use native.Mathlib.Omega.{arith}
+use Rattle.request.proofs.Readings.{readable, readable_short}
+use Rattle.probes.proofs.PartsCounting.{nothing_read, fields_low, parts_counted}
 use Rattle.probes.proofs.counts.count_parts.Goals as goal
 
-pub count_all_values-values-requires : goal.count_all_values-values-requires
-count_all_values-values-requires c = record { placed = search places_read; s_in_bounds = search value_room }
+pub returns-in_default : goal.returns-in_default
+returns-in_default g c = nothing_read _ _ _ _ _ _ c.read.ensures c.in_default.is
 
-pub slice_bounds-count_lines-count : goal.slice_bounds-count_lines-count
-slice_bounds-count_lines-count c = search (rules, lines_start)
-
-pub slice_bounds-count_lines-start : goal.slice_bounds-count_lines-start
-slice_bounds-count_lines-start c = search (rules, lines_start)
-
-pub count_lines-lines-requires : goal.count_lines-lines-requires
-count_lines-lines-requires c = search rest_short
+pub invariant_of-request : goal.invariant_of-request
+invariant_of-request g c = record { placed = readable _ _ _ _ _ _ c.read.ensures _ c.in-Some.is }
 
 pub to_long-requires : goal.to_long-requires
-to_long-requires c = search fields_low
+to_long-requires g c = fields_low _ _ _ _ (readable _ _ _ _ _ _ c.read.ensures _ c.in-Some.is)
 
-pub returns-in-Unreadable : goal.returns-in-Unreadable
-returns-in-Unreadable c = search nothing_read
+pub count_all_values-requires : goal.count_all_values-requires
+count_all_values-requires g c =
+    let short = readable_short _ _ _ _ _ _ c.read.ensures _ c.in-Some.is in
+    omega (arith, (c.requires.room short).1, c.read.auto.room)
 
-pub returns-in-Readable : goal.returns-in-Readable
-returns-in-Readable c = search parts_counted
+pub returns : goal.returns
+returns g c =
+    parts_counted _ _ _ _ (readable _ _ _ _ _ _ c.read.ensures _ c.in-Some.is) _ _ _ _ c.count_all_values.ensures c.described.ensures.0 c.count_lines.ensures
+    c.to_long.ensures
