@@ -30,10 +30,10 @@ lowest_alone mask p h n z e set k t =
     sym (bit_drop mask p k set) ∙ ap (λ (m : ℕ). bit m k) (sym (lowest_drop 64 mask p h n e) ∙ z) ∙ bit_zero k in
     eqb-true k p (not-false (eqb k p) (ap (λ (a : Bool). a && not (eqb k p)) (sym (is_true (bit mask k) t)) ∙ rest))
 
-pub only_one : (mask p : ℕ) → mask < 2 ^ 64 → (mask ≡ 0 → ⊥) → Below 60 mask → bit_and mask (mask - 1) ≡ 0 → p ≡ count_trailing_zeros 64 mask → Only mask (Some p)
+pub only_one : (mask p : ℕ) → mask < 2 ^ 64 → (mask ≡ 0 → ⊥) → p < 60 → bit_and mask (mask - 1) ≡ 0 → p ≡ count_trailing_zeros 64 mask → Only mask (Some p)
 only_one mask p h n b z e =
     let set : bit mask p ≡ true = ap (bit mask) e ∙ lowest_set 64 mask h n in
-    (bit_inside 60 mask p b (T_of set), lowest_alone mask p h n z e set)
+    (b, lowest_alone mask p h n z e set)
 
 -- ---- the way down to a byte that a position meets
 
@@ -60,9 +60,6 @@ module _ (set text : List ℕ) (from : ℕ) where
 
 pub start_below : (h : Shape) (before : List ℕ) → Closed h before → Below 60 h.start
 start_below h before c = below_wider h.size 60 h.start c.few (c.starts true)
-
-pub stops_below : (h : Shape) (before : List ℕ) → Closed h before → Below 60 h.stops
-stops_below h before c = below_wider h.size 60 h.stops c.few (c.lasts false)
 
 pub not_shut : (h : Shape) (sets : List (List ℕ)) (b : ℕ) → false ≡ true → Shut h sets b
 not_shut h sets b e = absurd (true≢false (sym e))

@@ -143,15 +143,16 @@ impl Shape {
     }
 }
 
-// The only position of a mask that has one; none if it has several.
+// The only position of a mask that has one; none if it has several bits, or one that is no position.
 fn only(mask: u64) -> Option<usize>
-    requires { (mask ≡ 0 → ⊥) × Below 60 mask }
+    requires { mask ≡ 0 → ⊥ }
     ensures { Only mask result }
 {
     if mask & (mask - 1) != 0 {
         return None;
     }
-    Some(u64::trailing_zeros(mask) as usize)
+    let p = u64::trailing_zeros(mask) as usize;
+    if p < 60 { Some(p) } else { None }
 }
 
 // The last place up to a place, and above 0, where position p meets the byte; otherwise the text's first place, which a scan looks at in
@@ -171,7 +172,7 @@ fn last_met(sets: &[[u64; 4]; 60], p: usize, text: &[u8], from: usize) -> usize
 // Where the scan goes on, from the place i: the bytes between are left out, where nothing is live, no empty part fits and no position
 // that may end a part meets a byte.
 fn passed(h: Shape, sets: &[[u64; 4]; 60], text: &[u8], next: u64, i: usize) -> usize
-    requires { (0 < i) × (i ≤ length text.now) × Below 60 h.stops }
+    requires { (0 < i) × (i ≤ length text.now) }
     ensures { Passed h sets.now text.now next i result }
 {
     if next != 0 {

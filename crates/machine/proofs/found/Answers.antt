@@ -1,4 +1,4 @@
-use Rattle.machine.proofs.Hunt.{start_below, found_empty, found_null, found_shut, stops_below}
+use Rattle.machine.proofs.Hunt.{start_below, found_empty, found_null, found_shut}
 use mathlib.Core.Path.{sym, ◌∙◌}
 use Rattle.machine.proofs.found.Goals as goal
 
@@ -22,9 +22,6 @@ scan_down-requires c =
 
 pub returns-then-h-eq0 : goal.returns-then-h-eq0
 returns-then-h-eq0 c = c.scan_down.ensures
-
-pub only-requires : goal.only-requires
-only-requires c = (c.if-h-eq0.false, stops_below _ _ c.requires)
 
 pub scan_down-requires-2 : goal.scan_down-requires-2
 scan_down-requires-2 c =

@@ -1,5 +1,5 @@
 use Rattle.machine.proofs.Scan.{scan_end, scan_below, scan_hit, scan_miss, scan_all}
-use Rattle.machine.proofs.Hunt.{scan_pass, stops_below}
+use Rattle.machine.proofs.Hunt.{scan_pass}
 use Prim.Native.Nat.{◌+◌, ◌-◌}
 use mathlib.Core.Path.{◌≡◌}
 use native.Mathlib.Omega.{arith}
@@ -9,7 +9,7 @@ pub loop-i-init : goal.loop-i-init
 loop-i-init c = search scan_end
 
 pub passed-top-requires : goal.passed-top-requires
-passed-top-requires c = (c.loop-i-test.true, c.loop-i.invariant.inside, stops_below _ _ c.requires)
+passed-top-requires c = (c.loop-i-test.true, c.loop-i.invariant.inside)
 
 pub overflow_sub-i : goal.overflow_sub-i
 overflow_sub-i c = omega (arith, c.passed-top.ensures.above)
