@@ -10,9 +10,6 @@ pub returns-in_err-end : goal.returns-in_err-end
 returns-in_err-end c =
     rw (exits c.from_residual.ensures.1) (section_bad _ _ _ _ _ _ (room_made c.args.rows (omega arith)) _ _ c.in_err-end.ensures)
 
-pub all_placed-requires : goal.all_placed-requires
-all_placed-requires c = (omega (arith, room_made c.args.rows (omega arith), c.count_members.auto.counts), omega arith)
-
 pub returns-in_err-all_placed : goal.returns-in_err-all_placed
 returns-in_err-all_placed c =
     rw (exits c.from_residual-in_err-all_placed.ensures.1) (section_unplaced _ _ _ _ _ _ (room_made c.args.rows (omega arith)) _ _ _ c.in_ok-end.ensures c.count_members.auto.counts _ _ c.in_err-all_placed.ensures)
