@@ -1,18 +1,19 @@
 -- The loop over the memberships: k of n are read, `last` is the last of them, and `counts` has how many each row has.
-use Prim.Native.Nat.{ℕ, zero, ◌+◌, ◌-◌, ◌*◌, ◌≤◌, ◌<◌}
+use Prim.Native.Nat.{ℕ, zero, suc, ◌+◌, ◌-◌, ◌*◌, ◌≤◌, ◌<◌}
 use native.Mathlib.Omega.{arith}
 use native.Mathlib.Nat.{sub-zero}
 use native.Mathlib.Decide.{ℕ_discrete}
 use mathlib.Core.Path.{◌≡◌, refl, sym, ap, ◌∙◌, fun_ext}
 use mathlib.Core.Bool.{Bool, true, false, cond}
 use mathlib.Core.List.{List, [], ◌∷◌, ◌++◌}
-use lib.ListN.{length, get_or, set, replicate, length-set, length-replicate, get_or-replicate}
-use lib.Seq.{get_or-set_same, get_or-set_other}
+use lib.ListN.{length, take, get_or, set, replicate, length-set, length-replicate, get_or-replicate}
+use lib.Seq.{length-take-le, get_or-set_same, get_or-set_other}
 use lib.Dec.{ltb, eqb}
 use borrow.Author.Tests.{eq-eqb, ne_eqb, ltb-true}
+use Rattle.std.proofs.lemmas.List.{take-replicate}
 use Rattle.cells.specs.Inner.Out.{Out, good, bad, must, ◌>>=◌}
-use Rattle.cells.specs.Inner.Places.{many, u16}
-use Rattle.entries.specs.Inner.Places.{reading_member, reading_members, follows, comes, after, has, few, placed}
+use Rattle.cells.specs.Inner.Places.{many, u16, ends}
+use Rattle.entries.specs.Inner.Places.{reading_member, reading_members, follows, comes, after, has, few, placed, reading_placed}
 use Rattle.entries.specs.declared.Member.{Member}
 use Rattle.entries.specs.Inner.Answers.{Counted}
 use Rattle.std.specs.Prelude.{Option, Some, None, Ok}
@@ -61,23 +62,23 @@ next s rows before = reading_member s rows (follows before)
 
 pub record MemberHead (s : List ℕ) (rows n start : ℕ) (counts : List ℕ) (last : Option Member) (k : ℕ) : Type 0 where
   pub count : k ≤ n
-  pub long : length counts ≡ 2048
+  pub long : length counts ≡ rows
   pub read : List Member
   pub so_far : reading_members s rows n start ≡ many (next s rows) (n - k) (start + 4 * k) read
   pub rises : (r g : ℕ) → follows read r g ≡ comes last r g
-  pub tally : (r : ℕ) → r < 2048 → get_or counts r 0 ≡ has read r
-  pub low : (r : ℕ) → r < 2048 → has read r ≤ k
+  pub tally : (r : ℕ) → r < rows → get_or counts r 0 ≡ has read r
+  pub low : (r : ℕ) → r < rows → has read r ≤ k
 
 module _ (s : List ℕ) (rows n start : ℕ) where
-  pub members_first : (counts : List ℕ) → counts ≡ replicate 2048 0 → MemberHead s rows n start counts None 0
+  pub members_first : (counts : List ℕ) → counts ≡ replicate rows 0 → MemberHead s rows n start counts None 0
   unfolding reading_members has
   members_first counts e = record {
     count = omega arith;
-    long = ap length e ∙ length-replicate {A = ℕ} 2048 0;
+    long = ap length e ∙ length-replicate {A = ℕ} rows 0;
     read = [];
     so_far = rw sub-zero (ap (λ (a : ℕ). many (next s rows) n a []) (omega arith));
     rises = λ r g. refl;
-    tally = λ r h. ap (λ (l : List ℕ). get_or l r 0) e ∙ get_or-replicate 2048 r 0 0 h;
+    tally = λ r h. ap (λ (l : List ℕ). get_or l r 0) e ∙ get_or-replicate rows r 0 0 h;
     low = λ r h. omega arith;
   }
 
@@ -92,11 +93,11 @@ module _ (s : List ℕ) (rows n start : ℕ) where
       pub in_table : m.row < rows
       in_table = member_row s rows (start + 4 * k) (comes last) m (start + 4 * k + 4) (sym e)
 
-      pub room : rows ≤ 2048 → get_or counts m.row 0 ≤ k
-      room l = let i = in_table in omega (arith, hd.tally m.row (omega arith), hd.low m.row (omega arith))
+      pub room : get_or counts m.row 0 ≤ k
+      room = let i = in_table in omega (arith, hd.tally m.row i, hd.low m.row i)
 
-      pub members_more : (c : ℕ) → c ≡ get_or counts m.row 0 → k < n → rows ≤ 2048 → MemberHead s rows n start (set counts m.row (c + 1)) (Some m) (k + 1)
-      members_more c ec l small =
+      pub members_more : (c : ℕ) → c ≡ get_or counts m.row 0 → k < n → MemberHead s rows n start (set counts m.row (c + 1)) (Some m) (k + 1)
+      members_more c ec l =
           let i = in_table in
           let f : start + 4 * k + 4 ≡ start + 4 * (k + 1) = omega arith in
           rw ec (record {
@@ -106,15 +107,15 @@ module _ (s : List ℕ) (rows n start : ℕ) where
             so_far = hd.so_far ∙ many_step (next s rows) n k (start + 4 * k) hd.read m (start + 4 * k + 4) l (same _ e)
                 ∙ ap (λ (a : ℕ). many (next s rows) (n - (k + 1)) a (hd.read ++ (m ∷ []))) f;
             rises = λ a b. follows_snoc hd.read m a b;
-            tally = λ j lj. tally_snoc counts hd.read m 2048 hd.long (omega arith) hd.tally j lj;
+            tally = λ j lj. tally_snoc counts hd.read m rows hd.long i hd.tally j lj;
             low = λ j lj. omega (arith, has_snoc hd.read m j, one_more (eqb m.row j), hd.low j lj);
           })
 
-    pub members_end : n ≤ k → rows ≤ 2048 → Counted (Ok (start + 4 * n)) s rows n start counts
-    members_end h small =
+    pub members_end : n ≤ k → Counted (Ok (start + 4 * n)) s rows n start counts
+    members_end h =
         let z : k ≡ n = omega arith in
         let f : start + 4 * k ≡ start + 4 * n = omega arith in
-        (hd.read, hd.so_far ∙ many_end (next s rows) n k (start + 4 * k) hd.read h ∙ ap (λ (a : ℕ). good (hd.read, a)) f, λ r l. hd.tally r (omega arith), refl)
+        (hd.read, hd.so_far ∙ many_end (next s rows) n k (start + 4 * k) hd.read h ∙ ap (λ (a : ℕ). good (hd.read, a)) f, hd.tally, refl)
 
 -- ---- every row has 1 to 8
 
@@ -143,3 +144,39 @@ module _ (f : ℕ → ℕ) (rows start : ℕ) where
   pub placed_end : (k : ℕ) → PlacedHead k → rows ≤ k → good tt ≡ placed f rows 0 start
   unfolding placed
   placed_end k hd h = let z : rows - k ≡ zero = omega arith in sym (hd.so_far ∙ rw z)
+
+-- ---- both
+
+placed_same : (f g : ℕ → ℕ) (n r at : ℕ) → ((k : ℕ) → k < r + n → f k ≡ g k) → placed f n r at ≡ placed g n r at
+unfolding placed
+placed_same f g zero r at h = refl
+placed_same f g (suc n) r at h =
+    let ih = placed_same f g n (r + 1) (at + 7) (λ k l. h k (omega arith)) in
+    rw (h r (omega arith), ih)
+
+-- the room for the counts of so many rows
+pub room_made : (rows : ℕ) → rows ≤ 2048 → length (take rows (replicate {A = ℕ} 2048 0)) ≡ rows
+room_made rows h = length-take-le rows (replicate {A = ℕ} 2048 0) (omega (arith, length-replicate {A = ℕ} 2048 0))
+
+pub cleared : (rows : ℕ) → rows ≤ 2048 → take rows (replicate {A = ℕ} 2048 0) ≡ replicate (length (take rows (replicate {A = ℕ} 2048 0))) 0
+cleared rows h = take-replicate rows 2048 0 h ∙ ap (λ (k : ℕ). replicate k 0) (sym (room_made rows h))
+
+module _ (s : List ℕ) (rows n start first w : ℕ) (ew : w ≡ rows) where
+  abbrev Section : Out ℕ → Type 0
+  Section o = o ≡ ends (reading_placed s rows n start first)
+
+  pub section_bad : (m q : ℕ) → reading_members s w n start ≡ bad m q → Section (bad m q)
+  unfolding reading_placed
+  section_bad m q e = rw (← ew, e)
+
+  module _ (counts : List ℕ) (e v : ℕ) (read : Counted (Ok e) s w n start counts) (ev : v ≡ w) where
+    tallied : placed (λ j. get_or counts j 0) v 0 first ≡ placed (has read.0) w 0 first
+    tallied = rw ev (placed_same (λ j. get_or counts j 0) (has read.0) w 0 first (λ j l. read.2 j (omega arith)))
+
+    pub section_unplaced : (m q : ℕ) → bad m q ≡ placed (λ j. get_or counts j 0) v 0 first → Section (bad m q)
+    unfolding reading_placed
+    section_unplaced m q h = rw (← ew, read.1, ← tallied, ← h)
+
+    pub section_end : good tt ≡ placed (λ j. get_or counts j 0) v 0 first → Section (good e)
+    unfolding reading_placed
+    section_end h = rw (← ew, read.1, ← tallied, ← h)

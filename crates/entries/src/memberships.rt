@@ -1,9 +1,10 @@
 // Section three: the memberships, and how many each row has.
 #![tactic(auto, unfolding(crate::specs::Inner::Places::reading_member))]
 
-ghost use Rattle.std.specs.Prelude.{◌≡◌, ◌≤◌, get_or, replicate};
+ghost use Rattle.std.specs.Prelude.{◌≡◌, ◌≤◌, get_or, length, replicate};
 ghost use Rattle.cells.specs.Inner.Answers.{field_out};
-ghost use Rattle.entries.specs.Inner.Places.{reading_member, comes, few, placed};
+ghost use Rattle.cells.specs.Inner.Places.{ends};
+ghost use Rattle.entries.specs.Inner.Places.{reading_member, comes, few, placed, reading_placed};
 ghost use Rattle.entries.specs.Inner.Answers.{member_out, Counted};
 
 use crate::Member;
@@ -22,17 +23,12 @@ fn member_at(s: &[u8], rows: usize, last: Option<Member>, at: usize) -> Result<M
     Ok(m)
 }
 
-// Section 3 after its count: how many memberships each row has goes into `counts`.
-pub fn members(
-    s: &[u8],
-    rows: usize,
-    n: usize,
-    start: usize,
-    counts: &mut [u16; 2048],
-) -> Result<usize, Refusal>
-    requires { (start ≤ 60000) × (rows ≤ 2048) × (n ≤ 16384) × (counts.old ≡ replicate 2048 0) }
-    ensures { Counted result s.now rows n start counts.new }
+// The memberships, from a place on: how many each row has goes into `counts`.
+fn count_members(s: &[u8], n: usize, start: usize, counts: &mut [u16]) -> Result<usize, Refusal>
+    requires { (start ≤ 60000) × (n ≤ 16384) × (counts.old ≡ replicate (length counts.old) 0) }
+    ensures { Counted result s.now (length counts.old) n start counts.new }
 {
+    let rows = counts.len();
     let mut last = None;
     for k in 0..n {
         let m = member_at(s, rows, last, start + 4 * k)?;
@@ -50,12 +46,30 @@ fn is_few(count: u16) -> bool
 }
 
 // After section 3: every row has 1 to 8 memberships.
-pub fn all_placed(counts: &[u16; 2048], rows: usize, start: usize) -> Result<(), Refusal>
-    requires { (rows ≤ 2048) × (start ≤ 60000) }
-    ensures { field_out result ≡ placed (λ k. get_or counts.now k 0) rows 0 start }
+fn all_placed(counts: &[u16], start: usize) -> Result<(), Refusal>
+    requires { (length counts.now ≤ 2048) × (start ≤ 60000) }
+    ensures { field_out result ≡ placed (λ k. get_or counts.now k 0) (length counts.now) 0 start }
 {
-    for k in 0..rows {
-        must(is_few(counts[k]), Fault::OutOfRange, start + 7 * k)?;
+    for (k, count) in counts.iter().enumerate() {
+        must(is_few(*count), Fault::OutOfRange, start + 7 * k)?;
     }
     Ok(())
+}
+
+// Section 3 after its count: where the memberships end. Every row, the first of them at `first`, has 1 to 8.
+pub fn members(
+    s: &[u8],
+    rows: usize,
+    n: usize,
+    start: usize,
+    first: usize,
+) -> Result<usize, Refusal>
+    requires { (start ≤ 60000) × (first ≤ 60000) × (rows ≤ 2048) × (n ≤ 16384) }
+    ensures { field_out result ≡ ends (reading_placed s.now rows n start first) }
+{
+    let mut room = [0u16; 2048];
+    let counts = &mut room[..rows];
+    let end = count_members(s, n, start, counts)?;
+    all_placed(counts, first)?;
+    Ok(end)
 }

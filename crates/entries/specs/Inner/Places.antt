@@ -69,6 +69,13 @@ placed memberships (suc n) r at = do
   u ← must (few (memberships r)) 4 at
   placed memberships n (r + 1) (at + 7)
 
+-- the memberships of so many rows, the first at `first`, which all have 1 to 8
+unfoldable pub reading_placed : List ℕ → ℕ → ℕ → ℕ → ℕ → Out (List Member × ℕ)
+reading_placed s rows n at first = do
+  q ← reading_members s rows n at
+  placed (has q.0) rows 0 first
+  good q
+
 -- ---- criteria
 
 -- priority p stands among those before
