@@ -116,7 +116,11 @@ fn goes(x: Session, state: u32) -> Reported
 pub fn report(x: Session, news: u32) -> Reported
     ensures { Reports x news result }
 {
-    if x.state != 1 || !can_be(x) {
+    // Two tests, not one: where the state is known first, a session that does not wait is refused for the least.
+    if x.state != 1 {
+        return stays(x, 10);
+    }
+    if !can_be(x) {
         return stays(x, 10);
     }
     match news {

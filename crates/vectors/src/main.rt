@@ -8,6 +8,8 @@ ghost use Rattle.std.specs.Prelude.{◌≡◌, ◌<◌, length};
 use octets::byte_at;
 use rows::Given;
 use session::Session;
+use std::io::Read;
+use std::rt::Files;
 use std::{fs, io};
 
 // ---- reading the files: a place past the end reads 0, so that a file that was cut shows as a difference
@@ -302,13 +304,35 @@ fn run(rt: &impl Print, cases: &[u8], answers: &[u8]) -> io::Result<()> {
     println!(rt; "{count} cases, {differ} differ", differ = at.differ)
 }
 
-// The first n bytes, if there are more: somewhat more than the files have.
-fn first(s: &[u8], n: usize) -> &[u8] {
-    &s[..s.len().min(n)]
+// Some more room than the files have, since a file that fills its room may go on.
+fn room_for_cases() -> [u8; 1000000] {
+    [0; 1000000]
+}
+
+fn room_for_answers() -> [u8; 200000] {
+    [0; 200000]
+}
+
+// Reads a file until the room is full or the file ends: what stands at the start of the room.
+fn read<'a>(rt: &impl Files, name: &str, into: &'a mut [u8]) -> io::Result<&'a [u8]> {
+    let mut file = fs::open(rt, name)?;
+    let mut done: usize = 0;
+    while done < into.len() {
+        let n = file.read(&mut into[done..])?;
+        if n == 0 {
+            break;
+        }
+        done += n;
+    }
+    Ok(&into[..done])
 }
 
 fn main(rt: HostRuntime) -> io::Result<()> {
-    let cases = fs::read(&rt, "cases")?;
-    let answers = fs::read(&rt, "answers")?;
-    run(&rt, first(&cases, 1000000), first(&answers, 200000))
+    let mut cases = room_for_cases();
+    let mut answers = room_for_answers();
+    run(
+        &rt,
+        read(&rt, "cases", &mut cases)?,
+        read(&rt, "answers", &mut answers)?,
+    )
 }
