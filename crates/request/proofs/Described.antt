@@ -1,11 +1,12 @@
 -- Whether the fields of a request say that its body is a session description: the search for its Content-Type field.
-use mathlib.Core.Bool.{Bool, true, false, not}
+use Rattle.std.specs.Prelude.{Option, Some, None, is_some}
+use Rattle.std.specs.Option.{unwrap_or}
+use mathlib.Core.Bool.{Bool, true, false}
 use mathlib.Core.Path.{◌≡◌, refl, sym, ap, ◌∙◌}
 use mathlib.Core.List.{List, [], ◌∷◌}
 use Prim.Native.Nat.{ℕ, ◌+◌, ◌-◌, ◌≤◌, ◌<◌}
 use native.Mathlib.Omega.{arith}
 use lib.ListN.{length, take, drop, drop_of_length-le}
-use borrow.Author.Tests.{not-true, not-false}
 use Rattle.octets.specs.Lists.{pick, only}
 use Rattle.cuts.specs.Inner.Parts.{part, over}
 use Rattle.contents.specs.Body.{session_lines}
@@ -32,35 +33,38 @@ value_says raw before room n en er r e = e ∙ ap (λ (v : List ℕ). one_descri
 abbrev typed : Field → Bool
 typed f = content_type f.name
 
--- the answer once a Content-Type field was seen or not, which says so or not, by those that are left
-abbrev going : Bool → Bool → List Field → Bool
-going false says l = described_by l
-going true says [] = says
-going true says (f ∷ l) = false
+-- the answer by what the Content-Type field before says, if there is one, and by those that are left
+abbrev going : Option Bool → List Field → Bool
+going None l = described_by l
+going (Some says) [] = says
+going (Some says) (f ∷ l) = false
 
 -- the fields before i were looked at
-pub record Looking (s : List ℕ) (fields i : ℕ) (seen says : Bool) : Type 0 where
-  pub inside : i ≤ fields
-  pub answer : going seen says (only typed (drop i (request_of s).fields)) ≡ is_description (request_of s)
-  pub unseen : seen ≡ false → says ≡ false
+pub record Looking (s : List ℕ) (fields i : ℕ) (o : Option Bool) : Type 0 where
+  pub answer : going o (only typed (drop i (request_of s).fields)) ≡ is_description (request_of s)
 
-pub looking_first : (s : List ℕ) (fields : ℕ) → Looking s fields 0 false false
+pub looking_first : (s : List ℕ) (fields : ℕ) → Looking s fields 0 None
 unfolding is_description
-looking_first s fields = record { inside = omega arith; answer = refl; unseen = λ e. e }
+looking_first s fields = record { answer = refl }
 
-skipped : (seen says : Bool) (f : Field) (l : List Field) → typed f ≡ false → going seen says (only typed (f ∷ l)) ≡ going seen says (only typed l)
-skipped seen says f l e = ap (λ (t : Bool). going seen says (pick t (f ∷ only typed l) (only typed l))) e
-
-found : (seen says : Bool) (f : Field) (l : List Field) → typed f ≡ true → going seen says (only typed (f ∷ l)) ≡ going seen says (f ∷ only typed l)
-found seen says f l e = ap (λ (t : Bool). going seen says (pick t (f ∷ only typed l) (only typed l))) e
+typed_or_not : (o : Option Bool) (f : Field) (l : List Field) (b : Bool) → typed f ≡ b
+    → going o (only typed (f ∷ l)) ≡ going o (pick b (f ∷ only typed l) (only typed l))
+typed_or_not o f l b e = ap (λ (t : Bool). going o (pick t (f ∷ only typed l) (only typed l))) e
 
 -- the first one's values decide, unless another follows
-first_one : (says : Bool) (f : Field) (l : List Field) → going false says (f ∷ l) ≡ going true (one_description f.values) l
-first_one says f [] = refl
-first_one says f (g ∷ l) = refl
+first_one : (f : Field) (l : List Field) → going None (f ∷ l) ≡ going (Some (one_description f.values)) l
+first_one f [] = refl
+first_one f (g ∷ l) = refl
 
-module _ (s starts colons : List ℕ) (head fields : ℕ) (x : Fielded s starts colons head fields) (i : ℕ) (seen says : Bool)
-    (k : Looking s fields i seen says) where
+second : (o : Option Bool) (f : Field) (l : List Field) → is_some o ≡ true → going o (f ∷ l) ≡ false
+second None f l e = let z : ◌≡◌ {A = ℕ} 0 1 = cc in absurd (omega arith)
+second (Some b) f l e = refl
+
+not_seen : (o : Option Bool) → is_some o ≡ false → o ≡ None
+not_seen None e = refl
+not_seen (Some b) e = let z : ◌≡◌ {A = ℕ} 0 1 = cc in absurd (omega arith)
+
+module _ (s starts colons : List ℕ) (head fields : ℕ) (x : Fielded s starts colons head fields) (i : ℕ) (o : Option Bool) (k : Looking s fields i o) where
   module _ (less : i < fields) (f : FieldParts) (f_is : f ≡ field_parts (head_of s) i) where
     abbrev name : List ℕ
     name = name_as_matched (part s f.name f.stop)
@@ -68,59 +72,42 @@ module _ (s starts colons : List ℕ) (head fields : ℕ) (x : Fielded s starts 
     abbrev this : Field
     this = record { name = name; values = values_of name (reduced (part s f.value f.end)) }
 
-    list_is : drop i (request_of s).fields ≡ (this ∷ drop (i + 1) (request_of s).fields)
+    abbrev later : List Field
+    later = drop (i + 1) (request_of s).fields
+
+    list_is : drop i (request_of s).fields ≡ (this ∷ later)
     list_is = (said s starts colons head fields x i less f f_is).list
 
     module _ (w : List ℕ) (w_is : w ≡ name) (t : Bool) (t_of : t ≡ content_type w) where
-      t_is : t ≡ content_type name
-      t_is = t_of ∙ ap content_type w_is
+      t_is : content_type name ≡ t
+      t_is = sym (t_of ∙ ap content_type w_is)
 
-      pub looking_past : not t ≡ true → Looking s fields (i + 1) seen says
-      looking_past n = record {
-        inside = omega (arith, less);
-        answer =
-            sym (skipped seen says this (drop (i + 1) (request_of s).fields) (sym t_is ∙ not-true t n))
-            ∙ sym (ap (λ (l : List Field). going seen says (only typed l)) list_is) ∙ k.answer;
-        unseen = k.unseen;
-      }
+      this_by : (b : Bool) → t ≡ b → going o (pick b (this ∷ only typed later) (only typed later)) ≡ is_description (request_of s)
+      this_by b e = sym (typed_or_not o this later b (t_is ∙ e)) ∙ sym (ap (λ (l : List Field). going o (only typed l)) list_is) ∙ k.answer
 
-      module _ (n : not t ≡ false) where
-        seen_here : going seen says (this ∷ only typed (drop (i + 1) (request_of s).fields)) ≡ is_description (request_of s)
-        seen_here =
-            sym (found seen says this (drop (i + 1) (request_of s).fields) (sym t_is ∙ not-false t n))
-            ∙ sym (ap (λ (l : List Field). going seen says (only typed l)) list_is) ∙ k.answer
+      pub looking_past : t ≡ false → Looking s fields (i + 1) o
+      looking_past n = record { answer = this_by false n }
 
-        pub second_one : seen ≡ true → false ≡ is_description (request_of s)
-        second_one e =
-            sym (ap (λ (b : Bool). going b says (this ∷ only typed (drop (i + 1) (request_of s).fields))) e) ∙ seen_here
+      module _ (y : t ≡ true) where
+        pub second_one : is_some o ≡ true → false ≡ is_description (request_of s)
+        second_one e = sym (second o this (only typed later) e) ∙ this_by true y
 
-        pub looking_on : seen ≡ false → (r : Bool) → r ≡ one_description (values_from (reduced (part s f.value f.end)) 0)
-            → Looking s fields (i + 1) true r
+        pub looking_on : is_some o ≡ false → (r : Bool) → r ≡ one_description (values_from (reduced (part s f.value f.end)) 0) → Looking s fields (i + 1) (Some r)
         looking_on e r r_is = record {
-          inside = omega (arith, less);
           answer =
-              ap (λ (b : Bool). going true b later)
-              (r_is ∙ sym (ap one_description (type_values name (reduced (part s f.value f.end)) (sym t_is ∙ not-false t n))))
-              ∙ sym (first_one says this later) ∙ sym (ap (λ (b : Bool). going b says (this ∷ later)) e) ∙ seen_here;
-          unseen = λ z. absurd (never z);
+              ap (λ (b : Bool). going (Some b) (only typed later)) (r_is ∙ sym (ap one_description (type_values name (reduced (part s f.value f.end)) (t_is ∙ y))))
+              ∙ sym (first_one this (only typed later)) ∙ sym (ap (λ (p : Option Bool). going p (this ∷ only typed later)) (not_seen o e)) ∙ this_by true y;
         }
-          where
-            later : List Field
-            later = only typed (drop (i + 1) (request_of s).fields)
 
-            never : true ≡ false → ⊥
-            never z = let o : ◌≡◌ {A = ℕ} 0 1 = cc in absurd (omega arith)
-
-  pub looking_end : fields ≤ i → says ≡ is_description (request_of s)
-  looking_end past =
-      sym (at_end seen k.unseen) ∙ sym (ap (λ (l : List Field). going seen says (only typed l)) none_left) ∙ k.answer
+  pub looking_end : fields ≤ i → unwrap_or o false ≡ is_description (request_of s)
+  looking_end past = at_end o ∙ sym (ap (λ (l : List Field). going o (only typed l)) none_left) ∙ k.answer
     where
       none_left : drop i (request_of s).fields ≡ []
       none_left = let past_all : length (request_of s).fields ≤ i = omega (arith, x.count) in drop_of_length-le (request_of s).fields past_all
 
-      at_end : (b : Bool) → (b ≡ false → says ≡ false) → going b says [] ≡ says
-      at_end true h = refl
-      at_end false h = sym (h refl)
+      at_end : (p : Option Bool) → unwrap_or p false ≡ going p []
+      at_end None = refl
+      at_end (Some b) = refl
 
 -- ---- where body lines begin
 

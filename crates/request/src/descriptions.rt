@@ -30,8 +30,7 @@ fn is_described(
     ensures { result ≡ is_description (request_of s.now) }
 {
     let long = contents::long_names();
-    let mut seen = false;
-    let mut describes = false;
+    let mut describes = None;
     for i in 0..fields {
         let f = parts_at(s, starts, colons, head, fields, i);
         let a = f.name;
@@ -42,13 +41,12 @@ fn is_described(
         if !octets::same_letters(name, b"Content-Type") {
             continue;
         }
-        if seen {
+        if describes.is_some() {
             return false;
         }
-        seen = true;
-        describes = value_describes(&s[v..e], room);
+        describes = Some(value_describes(&s[v..e], room));
     }
-    describes
+    describes.unwrap_or(false)
 }
 
 // Where body lines begin; at the end where there are none.

@@ -33,11 +33,8 @@ pub(crate) fn is_word(table: &[u8; 256], uri: bool, w: &[u8]) -> bool
     if w.len() == 0 {
         return false;
     }
-    let mut i: usize = 0;
-    while i < w.len() {
-        let b = w[i];
-        i += 1;
-        if !word_byte_is(table, uri, b) {
+    for b in w {
+        if !word_byte_is(table, uri, *b) {
             return false;
         }
     }

@@ -1,9 +1,5 @@
-use mathlib.Core.Path.{◌≡◌}
-use Prim.Native.Nat.{◌≤◌}
-use lib.ListN.{length}
 use Rattle.request.proofs.Described.{Looking}
 use Rattle.request.proofs.descriptions.is_described.Given as goal
 
 abbrev pub invariant-loop-i : goal.invariant-loop-i
-invariant-loop-i l =
-    Looking l.s l.fields l.i l.seen l.describes × (length l.room ≡ length l.initial.room) × (length l.s ≤ length l.room)
+invariant-loop-i l = Looking l.s l.fields l.i l.describes
