@@ -8,6 +8,7 @@ pub mod Filling
 pub mod Head
 pub mod Indexing
 pub mod Judging
+pub mod Lent
 pub mod Lines
 pub mod Nth
 pub mod OneField

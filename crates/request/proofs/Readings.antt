@@ -3,8 +3,8 @@ use Rattle.std.specs.Prelude.{Option as Answer, Some, None}
 use mathlib.Core.Option.{Option, none, some}
 use mathlib.Core.Path.{◌≡◌, sym, ap, ◌∙◌, subst}
 use mathlib.Core.List.{List}
-use Prim.Native.Nat.{ℕ, ◌+◌, ◌-◌, ◌*◌, ◌≤◌, ◌<◌, zero-le}
-use native.Mathlib.Nat.{sub-zero, le_of_eq, le_trans}
+use Prim.Native.Nat.{ℕ, ◌+◌, ◌-◌, ◌≤◌, ◌<◌, zero-le}
+use native.Mathlib.Nat.{sub-zero, le_of_eq}
 use native.Mathlib.Omega.{arith}
 use lib.ListN.{length, take, drop, length-drop}
 use lib.Seq.{take_all}
@@ -13,7 +13,7 @@ use Rattle.octets.proofs.Options.{Ok}
 use Rattle.cuts.specs.Inner.Parts.{part}
 use Rattle.contents.specs.Body.{session_lines}
 use Rattle.request.specs.Request.{request_lines, Request, read_request}
-use Rattle.request.specs.Inner.Places.{head_of, fields_start, lines_start, Read, Placed, Fielded, Rooms, or_blank, request_of, field_parts}
+use Rattle.request.specs.Inner.Places.{head_of, fields_start, lines_start, Read, Placed, Fielded, or_blank, request_of, field_parts}
 use Rattle.request.specs.declared.FieldParts.{FieldParts}
 use Rattle.request.specs.declared.Places.{Places}
 use Rattle.request.proofs.Accepted.{Accepts}
@@ -137,22 +137,3 @@ module _ (s starts colons starts' colons' : List ℕ) (rd : Answer Places) (k : 
     -- what is readable has at most 65,535 bytes
     pub readable_short : length s ≤ 65535
     readable_short = short s starts' colons' p readable
-
-    pub its_method : take (p.method - 0) s ≡ (request_of s).method
-    its_method = method_is s starts' colons' p readable
-
-    pub method_end : p.method ≤ length s
-    method_end = method_inside s starts' colons' p readable
-
-    -- what is readable has at most 65,535 bytes, for which there is room
-    pub value_room : (room room' : List ℕ) → Rooms s starts colons room → length room' ≡ length room → length s ≤ length room'
-    value_room room room' w e = omega (arith, w.for_room (short s starts' colons' p readable), e)
-
--- rooms of a length, for a request that is no longer
-pub rooms_of : (m : ℕ) (s starts colons room : List ℕ) → (length s ≤ 65535 → length s ≤ m) → m ≤ 4 * length starts → m ≤ 4 * length colons → m ≤ length room
-    → Rooms s starts colons room
-rooms_of m s starts colons room h a b c = record {
-  for_starts = record { enough = λ k. le_trans (h k) a };
-  for_colons = record { enough = λ k. le_trans (h k) b };
-  for_room = λ k. le_trans (h k) c;
-}

@@ -4,7 +4,7 @@
 
 ghost use Rattle.std.specs.Prelude.{◌≡◌, [], ◌+◌, ◌-◌, ◌≤◌, ◌<◌, T, ltb, length, get_or};
 ghost use Rattle.octets.specs.Lists.{pick};
-ghost use Rattle.request.specs.Inner.Places.{head_of, Rooms, Read, Placed, Fielded, field_parts};
+ghost use Rattle.request.specs.Inner.Places.{head_of, starts_in, colons_in, Rooms, Read, Fielded, field_parts};
 ghost use Rattle.request.specs.Request.{paired, head_lines, read_head, read_request};
 ghost use Rattle.request.specs.Inner.Steps.{judged, Fillable, Filled};
 
@@ -72,19 +72,27 @@ fn judge(s: &[u8]) -> Option<HeadPlaces>
     judge_lines(&s[0..at])
 }
 
-// Writes where each line from a place on starts, and where its colon stands, to the front of the lent places. All of them are fields. It
-// answers how many.
-fn fill(h: &[u8], from: usize, starts: &mut [u16], colons: &mut [u16]) -> usize
-    requires { Fillable h.now from (length starts.old) (length colons.old) }
-    ensures { Filled h.now from starts.old colons.old starts.new colons.new result }
+// Where the line of a field starts, and where its colon stands.
+#[derive(Clone, Copy, Default)]
+pub struct FieldPlace {
+    pub start: u16,
+    pub colon: u16,
+}
+
+// Writes the place of each line from a place on to the front of the lent places. All of them are fields. It answers how many.
+fn fill(h: &[u8], from: usize, lent: &mut [FieldPlace]) -> usize
+    requires { Fillable h.now from (length lent.old) (length lent.old) }
+    ensures { Filled h.now from (starts_in lent.old) (colons_in lent.old) (starts_in lent.new) (colons_in lent.new) result }
 {
     let mut p = from;
     let mut n: usize = 0;
     while p <= h.len() {
         let e = line_end(h, p);
         let k = cuts::place_of(&h[p..e], 0, 58);
-        starts[n] = p as u16;
-        colons[n] = (p + k) as u16;
+        lent[n] = FieldPlace {
+            start: p as u16,
+            colon: (p + k) as u16,
+        };
         n += 1;
         p = e + 2;
     }
@@ -102,16 +110,16 @@ pub struct Places {
     pub lines: usize,
 }
 
-// Reads a request. The places of each field's line and of its colon go to the front of the lent places, which are at least a quarter as
-// many as the request has bytes, since a field takes four; none of them is written where the request is unreadable. What stands in the
-// room afterwards means nothing.
-pub fn read(s: &[u8], starts: &mut [u16], colons: &mut [u16], room: &mut [u8]) -> Option<Places>
-    requires { Rooms s.now starts.old colons.old room.old }
-    ensures { Read s.now starts.old colons.old starts.new colons.new result }
+// Reads a request. The place of each field goes to the front of the lent places, which are at least a quarter as many as the request has
+// bytes, since a field takes four; none of them is written where the request is unreadable. What stands in the room afterwards means
+// nothing.
+pub fn read(s: &[u8], lent: &mut [FieldPlace], room: &mut [u8]) -> Option<Places>
+    requires { Rooms s.now (starts_in lent.old) (colons_in lent.old) room.old }
+    ensures { Read s.now (starts_in lent.old) (colons_in lent.old) (starts_in lent.new) (colons_in lent.new) result }
 {
     let h = judge(s)?;
-    let fields = fill(&s[0..h.head], h.fields, starts, colons);
-    let lines = lines_start(s, starts, colons, h.head, fields, room);
+    let fields = fill(&s[0..h.head], h.fields, lent);
+    let lines = lines_start(s, lent, h.head, fields, room);
     Some(Places {
         method: h.method,
         uri: h.uri,
@@ -124,12 +132,12 @@ pub fn read(s: &[u8], starts: &mut [u16], colons: &mut [u16], room: &mut [u8]) -
 // ---- one field
 
 // Where the line of field i ends: two bytes before the next one starts, or with the head.
-fn field_end(starts: &[u16], head: usize, fields: usize, i: usize) -> usize
-    requires { (i < fields) × (fields ≤ length starts.now) × ((i + 1 < fields) → 2 ≤ get_or starts.now (i + 1) 0) }
-    ensures { result ≡ pick (ltb (i + 1) fields) (get_or starts.now (i + 1) 0 - 2) head }
+fn field_end(lent: &[FieldPlace], head: usize, fields: usize, i: usize) -> usize
+    requires { (i < fields) × (fields ≤ length lent.now) × ((i + 1 < fields) → 2 ≤ get_or (starts_in lent.now) (i + 1) 0) }
+    ensures { result ≡ pick (ltb (i + 1) fields) (get_or (starts_in lent.now) (i + 1) 0 - 2) head }
 {
     if i + 1 < fields {
-        return octets::from_word(starts[i + 1]) - 2;
+        return octets::from_word(lent[i + 1].start) - 2;
     }
     head
 }
@@ -146,19 +154,18 @@ pub struct FieldParts {
 // Field i of a head, from the places that `read` wrote: no line is looked for again.
 pub(crate) fn parts_at(
     s: &[u8],
-    starts: &[u16],
-    colons: &[u16],
+    lent: &[FieldPlace],
     head: usize,
     fields: usize,
     i: usize,
 ) -> FieldParts
-    requires { Fielded s.now starts.now colons.now head fields × (i < fields) }
+    requires { Fielded s.now (starts_in lent.now) (colons_in lent.now) head fields × (i < fields) }
     ensures { result ≡ field_parts (head_of s.now) i }
 {
-    let a = octets::from_word(starts[i]);
-    let k = octets::from_word(colons[i]);
+    let a = octets::from_word(lent[i].start);
+    let k = octets::from_word(lent[i].colon);
     let n = cuts::trimmed_end(&s[a..k]);
-    let e = field_end(starts, head, fields, i);
+    let e = field_end(lent, head, fields, i);
     FieldParts {
         name: a,
         stop: a + n,

@@ -3,18 +3,17 @@ ghost use Rattle.std.specs.Prelude.{◌≡◌, ◌<◌, ◌≤◌, length};
 ghost use Rattle.std.proofs.Props.{props};
 ghost use Rattle.contents.specs.Body.{session_lines};
 ghost use Rattle.request.specs.Request.{request_lines};
-ghost use Rattle.request.specs.Inner.Places.{head_of, request_of, Placed, FieldIs, field_parts};
+ghost use Rattle.request.specs.Inner.Places.{head_of, request_of, starts_in, colons_in, Placed, FieldIs, field_parts};
 
-use crate::{FieldParts, Places, parts_at};
+use crate::{FieldParts, FieldPlace, Places, parts_at};
 
-// Its bytes, and the places of its parts, as `read` found them: those of its fields' lines and colons stand in places that were lent.
+// Its bytes, and the places of its parts, as `read` found them: those of its fields stand in places that were lent.
 #[derive(Clone, Copy)]
 pub struct ReadableRequest<'a> {
     pub bytes: &'a [u8],
-    pub starts: &'a [u16],
-    pub colons: &'a [u16],
+    pub fields: &'a [FieldPlace],
     pub places: Places,
-    pub ghost placed: { Placed bytes.now starts.now colons.now places } by { Prim.hlevel props },
+    pub ghost placed: { Placed bytes.now (starts_in fields.now) (colons_in fields.now) places } by { Prim.hlevel props },
 }
 
 // A field: its name as written, and its raw value.
@@ -51,8 +50,7 @@ impl<'a> ReadableRequest<'a> {
     {
         parts_at(
             self.bytes,
-            self.starts,
-            self.colons,
+            self.fields,
             self.places.head,
             self.places.fields,
             i,

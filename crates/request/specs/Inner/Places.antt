@@ -1,6 +1,6 @@
 -- Where the parts of a request stand in its bytes. Every place is a sum of lengths of what the definitions cut the bytes into.
 use Rattle.std.proofs.Math.Option.{Option, none, some}
-use Rattle.std.specs.Prelude.{◌≡◌, List, [], ◌∷◌, ℕ, ◌+◌, ◌*◌, ◌≤◌, length, get_or, take, drop, Option as Answer, Some, None}
+use Rattle.std.specs.Prelude.{◌≡◌, List, [], ◌∷◌, ℕ, ◌+◌, ◌*◌, ◌≤◌, length, get_or, take, drop, map, Option as Answer, Some, None}
 use Rattle.octets.specs.Lists.{text, pick}
 use Rattle.cuts.specs.Cutting.{first_cut, cut_by, before_cut, first_line}
 use Rattle.cuts.specs.Inner.Parts.{over}
@@ -9,6 +9,7 @@ use Rattle.contents.specs.Names.{name_as_matched}
 use Rattle.contents.specs.Values.{reduced, values_of}
 use Rattle.request.specs.Request.{empty_line, head_lines, whole_fields, Request, read_request, is_description}
 use Rattle.request.specs.declared.FieldParts.{FieldParts}
+use Rattle.request.specs.declared.FieldPlace.{FieldPlace}
 use Rattle.request.specs.declared.Places.{Places}
 
 -- the head: its length is the place of the first CR LF CR LF, or the length where there is none
@@ -47,6 +48,14 @@ unfoldable pub line_colons : ℕ → List (List ℕ) → List ℕ
 unfolding colon_in
 line_colons at [] = []
 line_colons at (l ∷ ls) = (at + colon_in l) ∷ line_colons (at + length l + 2) ls
+
+-- ---- the fields' places as they are lent
+
+abbrev pub starts_in : List FieldPlace → List ℕ
+starts_in ps = map (λ (p : FieldPlace). p.start) ps
+
+abbrev pub colons_in : List FieldPlace → List ℕ
+colons_in ps = map (λ (p : FieldPlace). p.colon) ps
 
 -- ---- the answer of reading
 

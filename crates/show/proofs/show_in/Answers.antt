@@ -1,7 +1,11 @@
 use native.Mathlib.Omega.{arith}
+use Rattle.request.proofs.Lent.{rooms_new}
 use Rattle.request.proofs.Readings.{readable, readable_short}
 use Rattle.show.proofs.Calling.{show_unreadable, show_past, show_done}
 use Rattle.show.proofs.show_in.Goals as goal
+
+pub read-requires : goal.read-requires
+read-requires g c = rooms_new _ _ _ _ c.requires.room
 
 pub returns-in_default : goal.returns-in_default
 returns-in_default g c = show_unreadable _ _ _ _ _ _ c.read.ensures _ _ _ c.args.image.now.standing _ _ c.in_default.is c.refuse.ensures

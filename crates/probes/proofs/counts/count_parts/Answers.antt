@@ -1,7 +1,11 @@
 use native.Mathlib.Omega.{arith}
+use Rattle.request.proofs.Lent.{rooms_new}
 use Rattle.request.proofs.Readings.{readable, readable_short}
 use Rattle.probes.proofs.PartsCounting.{nothing_read, fields_low, parts_counted}
 use Rattle.probes.proofs.counts.count_parts.Goals as goal
+
+pub read-requires : goal.read-requires
+read-requires g c = rooms_new _ _ _ _ c.requires.room
 
 pub returns-in_default : goal.returns-in_default
 returns-in_default g c = nothing_read _ _ _ _ _ _ c.read.ensures c.in_default.is
