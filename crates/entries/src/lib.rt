@@ -9,7 +9,7 @@ mod memberships;
 mod trigger_rows;
 
 pub use crate::criteria_table::criteria;
-pub use crate::memberships::members;
+pub use crate::memberships::{all_placed, members, placed_members};
 pub use crate::trigger_rows::rows;
 use cells::{number, priority};
 

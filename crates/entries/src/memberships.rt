@@ -24,7 +24,12 @@ fn member_at(s: &[u8], rows: usize, last: Option<Member>, at: usize) -> Result<M
 }
 
 // The memberships, from a place on: how many each row has goes into `counts`.
-fn count_members(s: &[u8], n: usize, start: usize, counts: &mut [u16]) -> Result<usize, Refusal>
+pub fn members(
+    s: &[u8],
+    n: usize,
+    start: usize,
+    counts: &mut [u16],
+) -> Result<usize, Refusal>
     requires { (start ≤ 60000) × (n ≤ 16384) × (counts.old ≡ replicate (length counts.old) 0) }
     ensures { Counted result s.now (length counts.old) n start counts.new }
 {
@@ -46,7 +51,7 @@ fn is_few(count: u16) -> bool
 }
 
 // After section 3: every row has 1 to 8 memberships.
-fn all_placed(counts: &[u16], start: usize) -> Result<(), Refusal>
+pub fn all_placed(counts: &[u16], start: usize) -> Result<(), Refusal>
     requires { (length counts.now ≤ 2048) × (start ≤ 60000) }
     ensures { field_out result ≡ placed (λ k. get_or counts.now k 0) (length counts.now) 0 start }
 {
@@ -57,7 +62,7 @@ fn all_placed(counts: &[u16], start: usize) -> Result<(), Refusal>
 }
 
 // Section 3 after its count: where the memberships end. Every row, the first of them at `first`, has 1 to 8.
-pub fn members(
+pub fn placed_members(
     s: &[u8],
     rows: usize,
     n: usize,
@@ -69,7 +74,7 @@ pub fn members(
 {
     let mut room = [0u16; 2048];
     let counts = &mut room[..rows];
-    let end = count_members(s, n, start, counts)?;
+    let end = members(s, n, start, counts)?;
     all_placed(counts, first)?;
     Ok(end)
 }

@@ -15,7 +15,7 @@ pub use crate::accepted_image::AcceptedImage;
 use cells::{
     Fault, Refusal, StringTable, Suits, byte_at, count_at, judge_strings, must, strings, text,
 };
-use entries::{criteria, members, rows};
+use entries::{criteria, placed_members, rows};
 
 // An accepted image's edition, and where its parts lie: how many strings, and the first byte and the number of the rows, memberships
 // and criteria.
@@ -61,7 +61,7 @@ fn judge_image(s: &[u8], table: &mut [u16; 1024]) -> Result<Layout, Refusal>
     let row_count = count_at(s, rows_at, 2048)?;
     let members_at = rows(&strings, row_count, rows_at + 2)?;
     let member_count = count_at(s, members_at, 16384)?;
-    let criteria_at = members(s, row_count, member_count, members_at + 2, rows_at + 2)?;
+    let criteria_at = placed_members(s, row_count, member_count, members_at + 2, rows_at + 2)?;
     let criterion_count = count_at(s, criteria_at, 64)?;
     let end = criteria(&strings, row_count, criterion_count, criteria_at + 2)?;
     must(end == s.len(), Fault::Trailing, end)?;

@@ -115,13 +115,16 @@ module _ (strs : List Stored) (r : Row) (matchable : Matchable strs r) (not_case
   kinds true e = fields_as h c (or_empty (read_pattern h)) (or_empty (read_pattern c)) h_read (absent r) c_read q.fields ∙ sym (of_kind true e)
   kinds false e = lines_as h c (or_empty (read_pattern h)) (or_empty (read_pattern c)) h_read (absent r) c_read (request_lines q) ∙ sym (of_kind false e)
 
-  module _ (p : RowPatterns) (k : PatternsOf strs r p) where
-    by_bytes : (b : Bool) → patterns_shown q b p.name.bytes.now (is_some p.content) (content_bytes p.content) ≡ patterns_shown q b h (not (absent r)) c
-    by_bytes b =
-        ap₂ (λ (t : List ℕ) (w : Bool). patterns_shown q b t w (content_bytes p.content)) k.name_is k.content.present
-        ∙ content_free q b h (content_bytes p.content) c (absent r) (λ e. k.content.named (eqb-false r.second 65535 e))
+  pub pattern_shown : (t u : List ℕ) → t ≡ h → u ≡ c → (v : Shown) → v ≡ patterns_shown q (not (eqb r.kind 2)) t (not (eqb r.second 65535)) u
+      → v ≡ test_shown q (test_from strs r)
+  pattern_shown t u et eu v ev =
+      ev ∙ ap₂ (λ (x y : List ℕ). patterns_shown q (not (eqb r.kind 2)) x (not (absent r)) y) et eu ∙ kinds (eqb r.kind 2) refl
 
-    pub pattern_shown : (v : Shown) → v ≡ patterns_shown q (not p.name.for_names) p.name.bytes.now (is_some p.content) (content_bytes p.content)
-        → v ≡ test_shown q (test_from strs r)
-    pattern_shown v ev =
-        ev ∙ by_bytes (not p.name.for_names) ∙ ap (λ (n : Bool). patterns_shown q (not n) h (not (absent r)) c) k.for_names ∙ kinds (eqb r.kind 2) refl
+  -- by the row's patterns as they are kept: without Content no bytes of it are kept
+  pub kept_shown : (p : RowPatterns) → PatternsOf strs r p → (v : Shown)
+      → v ≡ patterns_shown q (not p.name.for_names) p.name.bytes.now (is_some p.content) (content_bytes p.content) → v ≡ test_shown q (test_from strs r)
+  kept_shown p k v ev =
+      pattern_shown p.name.bytes.now c k.name_is refl v (
+        ev ∙ ap₂ (λ (n w : Bool). patterns_shown q (not n) p.name.bytes.now w (content_bytes p.content)) k.for_names k.content.present
+            ∙ content_free q (not (eqb r.kind 2)) p.name.bytes.now (content_bytes p.content) c (absent r) (λ e. k.content.named (eqb-false r.second 65535 e))
+      )

@@ -35,8 +35,8 @@ returns-in_err-member_count-clause-table_after c = rw (exits c.from_residual-in_
 pub overflow_add-members_at : goal.overflow_add-members_at
 overflow_add-members_at c = omega (arith, members_low _ _ c.in_ok-count.ensures _ _ c.in_ok-rows_at.ensures.tabled _ c.in_ok-row_count.ensures _ c.in_ok-members_at.ensures)
 
-pub members-requires : goal.members-requires
-members-requires c = let r = rows_low _ _ c.in_ok-count.ensures _ _ c.in_ok-rows_at.ensures.tabled _ c.in_ok-row_count.ensures in (members_low _ _ c.in_ok-count.ensures _ _ c.in_ok-rows_at.ensures.tabled _ c.in_ok-row_count.ensures _ c.in_ok-members_at.ensures, omega arith, r.1, members_few _ _ c.in_ok-count.ensures _ _ c.in_ok-rows_at.ensures.tabled _ c.in_ok-row_count.ensures _ c.in_ok-members_at.ensures _ c.in_ok-member_count.ensures)
+pub placed_members-requires : goal.placed_members-requires
+placed_members-requires c = let r = rows_low _ _ c.in_ok-count.ensures _ _ c.in_ok-rows_at.ensures.tabled _ c.in_ok-row_count.ensures in (members_low _ _ c.in_ok-count.ensures _ _ c.in_ok-rows_at.ensures.tabled _ c.in_ok-row_count.ensures _ c.in_ok-members_at.ensures, omega arith, r.1, members_few _ _ c.in_ok-count.ensures _ _ c.in_ok-rows_at.ensures.tabled _ c.in_ok-row_count.ensures _ c.in_ok-members_at.ensures _ c.in_ok-member_count.ensures)
 
 pub returns-in_err-criteria_at-clause-table_after : goal.returns-in_err-criteria_at-clause-table_after
 returns-in_err-criteria_at-clause-table_after c = rw (exits c.from_residual-in_err-criteria_at.ensures.1) (members_no _ _ c.in_ok-count.ensures _ _ c.in_ok-rows_at.ensures.tabled _ c.in_ok-row_count.ensures _ c.in_ok-members_at.ensures _ c.in_ok-member_count.ensures _ _ c.in_err-criteria_at.ensures)

@@ -1,5 +1,5 @@
 use native.Mathlib.Omega.{arith}
-use Rattle.show.proofs.Rowing.{uri_shown, method_shown, case_shown, pattern_shown}
+use Rattle.show.proofs.Rowing.{uri_shown, method_shown, case_shown, kept_shown}
 use Rattle.spots.proofs.Showing.{none_shown_low}
 use Rattle.show.proofs.show_test.Goals as goal
 
@@ -14,6 +14,6 @@ returns-in-3 c = (case_shown _ _ _ _ c.none_shown-in-3.ensures c.in-3.is, none_s
 
 pub returns-in_default : goal.returns-in_default
 returns-in_default c = (
-  pattern_shown _ _ c.requires.cases (λ e. omega arith) (λ e. omega arith) (λ e. omega arith) _ _ c.prepare.ensures _ c.show_patterns.ensures.0,
+  kept_shown _ _ c.requires.cases (λ e. omega arith) (λ e. omega arith) (λ e. omega arith) _ _ c.prepare.ensures _ c.show_patterns.ensures.0,
   c.show_patterns.ensures.1,
 )

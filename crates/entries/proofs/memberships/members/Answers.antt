@@ -1,18 +1,16 @@
-use native.Mathlib.Omega.{arith}
 use Rattle.cells.proofs.Laws.{exits}
-use Rattle.entries.proofs.MemberLoop.{room_made, cleared, section_bad, section_unplaced, section_end}
+use Rattle.entries.proofs.MemberLoop.{members_first, members_more, members_bad, members_end}
 use Rattle.entries.proofs.memberships.members.Goals as goal
 
-pub count_members-requires : goal.count_members-requires
-count_members-requires c = (omega arith, omega arith, cleared _ (omega arith))
+pub loop-k-init : goal.loop-k-init
+loop-k-init c = search members_first
 
-pub returns-in_err-end : goal.returns-in_err-end
-returns-in_err-end c =
-    rw (exits c.from_residual.ensures.1) (section_bad _ _ _ _ _ _ (room_made c.args.rows (omega arith)) _ _ c.in_err-end.ensures)
+pub returns-in_err-m : goal.returns-in_err-m
+returns-in_err-m c =
+    rw (exits c.from_residual.ensures.1) (search (members_bad, c.in_err-m.ensures))
 
-pub returns-in_err-all_placed : goal.returns-in_err-all_placed
-returns-in_err-all_placed c =
-    rw (exits c.from_residual-in_err-all_placed.ensures.1) (section_unplaced _ _ _ _ _ _ (room_made c.args.rows (omega arith)) _ _ _ c.in_ok-end.ensures c.count_members.auto.counts _ _ c.in_err-all_placed.ensures)
+pub loop-k-preserved : goal.loop-k-preserved
+loop-k-preserved c = search (members_more, c.in_ok-m.ensures)
 
 pub returns : goal.returns
-returns c = section_end _ _ _ _ _ _ (room_made c.args.rows (omega arith)) _ _ _ c.in_ok-end.ensures c.count_members.auto.counts c.in_ok-all_placed.ensures
+returns c = search members_end
