@@ -1,5 +1,6 @@
 -- What each contract cites leaves one answer, and one content of every lent place.
 use mathlib.Core.Bool.{Bool}
+use mathlib.Core.Option.{Option}
 use mathlib.Core.Path.{◌≡◌, sym, ap₂, ◌∙◌}
 use Prim.Native.Nat.{ℕ}
 use mathlib.Core.List.{List}
@@ -19,7 +20,7 @@ use Rattle.session.specs.declared.Opened.{Opened}
 use Rattle.session.specs.declared.Reported.{Reported}
 use Rattle.request.specs.Inner.Places.{Read}
 use Rattle.request.specs.Request.{Request}
-use Rattle.request.specs.declared.Reading.{Reading}
+use Rattle.request.specs.declared.Places.{Places}
 use Rattle.rows.specs.declared.Given.{Given}
 use Rattle.rows.specs.Inner.Tried.{Tried}
 use Rattle.trials.specs.declared.Verdict.{Verdict}
@@ -62,7 +63,7 @@ one_listing h k = (h.answer ∙ sym k.answer, h.places ∙ sym k.places)
 pub one_judgement : {s : List ℕ} {a b : Judgement} → Judges s a → Judges s b → a ≡ b
 one_judgement h k = h.answer ∙ sym k.answer
 
-pub one_reading : {s starts colons starts' starts'' colons' colons'' : List ℕ} {a b : Reading} → Read s starts colons starts' colons' a → Read s starts colons starts'' colons'' b
+pub one_reading : {s starts colons starts' starts'' colons' colons'' : List ℕ} {a b : Option Places} → Read s starts colons starts' colons' a → Read s starts colons starts'' colons'' b
     → (a ≡ b) × (starts' ≡ starts'') × (colons' ≡ colons'')
 one_reading h k = (h.answer ∙ sym k.answer, h.starts_are ∙ sym k.starts_are, h.colons_are ∙ sym k.colons_are)
 
