@@ -19,7 +19,6 @@ use Rattle.scan.specs.Inner.Points.{firsts, starts, nexts, letters, word_at, com
 use Rattle.grammar.proofs.Better.{better_none, none_better, better_assoc}
 use Rattle.grammar.proofs.Shifted.{larger_less, larger_more, larger_under, shifted_wins, wins_shifted}
 use Rattle.scan.proofs.Words.{expect_miss, expect_whole, apart, off, Off, common_le}
-use Rattle.scan.proofs.Lettered.{word_long}
 
 -- ---- the words of a point are apart
 
@@ -149,12 +148,6 @@ module _ (q : ℕ) (t : List ℕ) (end best j : ℕ) (c : Choosing q t end best 
   pub choosing_word : j < end → j < 123
   choosing_word h = let p : Point q = point q c.point_is in omega (arith, h, c.last, p.ends)
 
-  pub choosing_start : j < end → j < 124
-  choosing_start h = let p : j < 123 = choosing_word h in omega (arith, p)
-
-  pub choosing_stop : j < end → j + 1 < 124
-  choosing_stop h = let p : j < 123 = choosing_word h in omega (arith, p)
-
   pub choosing_missed : end ≤ j → Missing q t best
   unfolding choices
   choosing_missed h = record {
@@ -164,14 +157,10 @@ module _ (q : ℕ) (t : List ℕ) (end best j : ℕ) (c : Choosing q t end best 
         c.same k ∙ ap (λ (n : ℕ). better (wrong best) (choices k j n t)) z ∙ better_none (wrong best);
   }
 
-  long_is : j < end → (from to : ℕ) → from ≡ get_or starts j 0 → to ≡ get_or starts (j + 1) 0 → length (word_at j) ≡ to - from
-  long_is h from to f g = word_long j (choosing_word h) ∙ sym (rw (f, g, add-one j))
-
-  pub choosing_found : j < end → (from to r : ℕ) → from ≡ get_or starts j 0 → to ≡ get_or starts (j + 1) 0 → r ≡ common (word_at j) t → r ≡ to - from
-      → Found q t j
-  choosing_found h from to r f g e x =
+  pub choosing_found : j < end → (width r : ℕ) → width ≡ length (word_at j) → r ≡ common (word_at j) t → r ≡ width → Found q t j
+  choosing_found h width r f e x =
       let p : Point q = point q c.point_is in
-      let w : common (word_at j) t ≡ length (word_at j) = sym e ∙ x ∙ sym (long_is h from to f g) in
+      let w : common (word_at j) t ≡ length (word_at j) = sym e ∙ x ∙ f in
       record {
         from = c.from;
         under = omega (arith, h, c.last);
@@ -179,10 +168,10 @@ module _ (q : ℕ) (t : List ℕ) (end best j : ℕ) (c : Choosing q t end best 
         goes = λ k. chosen k t j w (first_word q) (word_count q) c.from (omega (arith, h, c.last, c.from)) (p.clears j c.from (omega (arith, h, c.last)));
       }
 
-  pub choosing_next : j < end → (from to r b : ℕ) → from ≡ get_or starts j 0 → to ≡ get_or starts (j + 1) 0 → r ≡ common (word_at j) t → (r ≡ to - from → ⊥)
-      → b ≡ max best r → Choosing q t end b (j + 1)
+  pub choosing_next : j < end → (width r b : ℕ) → width ≡ length (word_at j) → r ≡ common (word_at j) t → (r ≡ width → ⊥) → b ≡ max best r
+      → Choosing q t end b (j + 1)
   unfolding choices
-  choosing_next h from to r b f g e x top = let l : b ≡ larger best r = top ∙ max_larger best r in record {
+  choosing_next h width r b f e x top = let l : b ≡ larger best r = top ∙ max_larger best r in record {
     point_is = c.point_is;
     from = omega (arith, c.from);
     upto = omega (arith, h);
@@ -190,7 +179,7 @@ module _ (q : ℕ) (t : List ℕ) (end best j : ℕ) (c : Choosing q t end best 
     within = subst⁻¹ (λ (x : ℕ). x ≤ length t) l (larger_under best r (length t) c.within (subst⁻¹ (λ (x : ℕ). x ≤ length t) e (common_le (word_at j) t)));
     same = λ k.
         let m : expect (word_at j) (k (get_or nexts j 0)) t ≡ wrong r =
-        expect_miss (word_at j) (k (get_or nexts j 0)) t (λ y. x (e ∙ y ∙ long_is h from to f g)) ∙ ap wrong (sym e) in
+        expect_miss (word_at j) (k (get_or nexts j 0)) t (λ y. x (e ∙ y ∙ sym f)) ∙ ap wrong (sym e) in
         let n : end - j ≡ suc (end - suc j) = omega (arith, h) in
         c.same k
         ∙ ap (λ (z : ℕ). better (wrong best) (choices k j z t)) n

@@ -58,45 +58,46 @@ letter_at j i h =
 pub start_order : (j from to : ℕ) → j < 123 → from ≡ get_or starts j 0 → to ≡ get_or starts (j + 1) 0 → from ≤ to
 start_order j from to h f t = let p : Placed j = placed j h in omega (arith, p.rises, f, rw add-one at t)
 
+pub width_is : (j from to : ℕ) → j < 123 → from ≡ get_or starts j 0 → to ≡ get_or starts (j + 1) 0 → to - from ≡ length (word_at j)
+width_is j from to h f t = rw (f, t, add-one j) (sym (word_long j h))
+
 -- ---- the loop
 
-pub record ReachAt (s : List ℕ) (at j from to n left i : ℕ) : Type 0 where
+pub record ReachAt (s : List ℕ) (at j from n left i : ℕ) : Type 0 where
   pub reaching : Reaching (word_at j) (drop at s) i
   pub number : j < 123
   pub front : at ≤ length s
   pub first : from ≡ get_or starts j 0
-  pub last : to ≡ get_or starts (suc j) 0
-  pub long : n ≡ to - from
+  pub long : n ≡ length (word_at j)
   pub rest : left ≡ length s - at
 
-pub reach_first : (s : List ℕ) (at j from to : ℕ) → at ≤ length s → j < 123 → from ≡ get_or starts j 0 → to ≡ get_or starts (j + 1) 0
-    → ReachAt s at j from to (to - from) (length s - at) 0
-reach_first s at j from to a h f t = record {
+pub reach_first : (s : List ℕ) (at j from n : ℕ) → at ≤ length s → j < 123 → from ≡ get_or starts j 0 → n ≡ length (word_at j)
+    → ReachAt s at j from n (length s - at) 0
+reach_first s at j from n a h f l = record {
   reaching = reaching_first (word_at j) (drop at s);
   number = h;
   front = a;
   first = f;
-  last = rw add-one at t;
-  long = refl;
+  long = l;
   rest = refl;
 }
 
-module _ (s : List ℕ) (at j from to n left i : ℕ) (r : ReachAt s at j from to n left i) where
+module _ (s : List ℕ) (at j from n left i : ℕ) (r : ReachAt s at j from n left i) where
   word_is : length (word_at j) ≡ n
-  word_is = word_long j r.number ∙ omega (arith, r.first, r.last, r.long)
+  word_is = sym r.long
 
   text_is : length (drop at s) ≡ left
   text_is = length-drop at s ∙ sym r.rest
 
   pub reach_inside : i < n → from + i < 1103
-  reach_inside h = let p : Placed j = placed j r.number in omega (arith, p.rises, p.ends, r.first, r.last, r.long, h)
+  reach_inside h = let p : Placed j = placed j r.number in omega (arith, p.rises, p.ends, r.first, r.long, word_long j r.number, h)
 
   pub reach_in_text : i < left → at + i < length s
   reach_in_text h = omega (arith, r.rest, h)
 
   letter_is : i < n → get_or letters (from + i) 0 ≡ get_or (word_at j) i 0
   letter_is h =
-      rw r.first (sym (letter_at j i (omega (arith, r.first, r.last, r.long, h))))
+      rw r.first (sym (letter_at j i (omega (arith, r.long, word_long j r.number, h))))
 
   pub reach_short : left ≤ i → i ≡ common (word_at j) (drop at s)
   reach_short h = reaching_short (word_at j) (drop at s) i r.reaching (rw text_is h)
@@ -109,7 +110,7 @@ module _ (s : List ℕ) (at j from to n left i : ℕ) (r : ReachAt s at j from t
       reaching_other (word_at j) (drop at s) i r.reaching (rw word_is h) (rw text_is l)
       (λ q. d (e ∙ letter_is h ∙ q ∙ get_or-drop at s i 0))
 
-  pub reach_next : i < n → i < left → (a : ℕ) → a ≡ get_or letters (from + i) 0 → a ≡ get_or s (at + i) 0 → ReachAt s at j from to n left (i + 1)
+  pub reach_next : i < n → i < left → (a : ℕ) → a ≡ get_or letters (from + i) 0 → a ≡ get_or s (at + i) 0 → ReachAt s at j from n left (i + 1)
   reach_next h l a e d = record {
     reaching =
         reaching_next (word_at j) (drop at s) i r.reaching (rw word_is h) (rw text_is l)
@@ -117,7 +118,6 @@ module _ (s : List ℕ) (at j from to n left i : ℕ) (r : ReachAt s at j from t
     number = r.number;
     front = r.front;
     first = r.first;
-    last = r.last;
     long = r.long;
     rest = r.rest;
   }

@@ -2,7 +2,6 @@
 use mathlib.Core.Path.{◌≡◌, sym, ap, ap₂, ◌∙◌, subst, subst⁻¹, fun_ext}
 use mathlib.Core.Bool.{Bool, true, ◌&&◌, ◌||◌}
 use Prim.Native.Nat.{ℕ, ◌+◌, ◌-◌, ◌≤◌, ◌<◌}
-use native.Mathlib.Numerals.{add-one}
 use native.Mathlib.Omega.{arith}
 use mathlib.Core.List.{List, []}
 use lib.Dec.{T, leb, ltb, leb→le, ltb→lt}
@@ -14,7 +13,7 @@ use Rattle.octets.proofs.Tests.{left, right, or_cases}
 use Rattle.octets.proofs.Table as table
 use Rattle.grammar.specs.Reading.{wrong, up_to}
 use Rattle.grammar.specs.Inner.Made.{forget, shifted}
-use Rattle.scan.specs.Inner.Points.{starts, nexts, word_at, common, closing, Found, Missing, ClosedAt, NotClosed, Closes, Chose}
+use Rattle.scan.specs.Inner.Points.{nexts, word_at, common, closing, Found, Missing, ClosedAt, NotClosed, Closes, Chose}
 use Rattle.std.specs.Prelude.{Result, Ok, Err}
 use Rattle.std.specs.Prelude.{Option as Optional, Some, None}
 use Rattle.scan.specs.Inner.Rests.{Ahead, rest, plainly}
@@ -62,78 +61,74 @@ rest_comment n h l =
 pub found_number : (q : ℕ) (t : List ℕ) (j : ℕ) → q < 42 → Found q t j → j < 123
 found_number q t j h f = let p : Point q = point q h in omega (arith, f.under, p.ends)
 
-module _ (s : List ℕ) (at q j from to : ℕ) (i : at ≤ length s) (h : q < 42) (f : Found q (drop at s) j)
-    (a : from ≡ get_or starts j 0) (b : to ≡ get_or starts (j + 1) 0) where
+module _ (s : List ℕ) (at q j wide : ℕ) (i : at ≤ length s) (h : q < 42) (f : Found q (drop at s) j) (a : wide ≡ length (word_at j)) where
   word_number : j < 123
   word_number = found_number q (drop at s) j h f
 
-  long : length (word_at j) ≡ to - from
-  long = word_long j word_number ∙ sym (rw (a, b, add-one j))
+  some_bytes : 0 < wide
+  some_bytes = let p : Placed j = placed j word_number in omega (arith, p.rises, word_long j word_number, a)
 
-  some_bytes : 0 < to - from
-  some_bytes = let p : Placed j = placed j word_number in omega (arith, p.rises, a, rw add-one at b)
-
-  pub word_inside : at + (to - from) ≤ length s
+  pub word_inside : at + wide ≤ length s
   word_inside =
       let c : common (word_at j) (drop at s) ≤ length (drop at s) = common_le (word_at j) (drop at s) in
       let l : length (drop at s) ≡ length s - at = length-drop at s in
-      omega (arith, c, l, f.whole, long, i)
+      omega (arith, c, l, f.whole, a, i)
 
   -- the words of the point are this one
-  onward : words_ahead q (drop at s) ≡ shifted (to - from) (rest (get_or nexts j 0) (drop (at + (to - from)) s))
+  onward : words_ahead q (drop at s) ≡ shifted wide (rest (get_or nexts j 0) (drop (at + wide) s))
   onward =
       f.goes rest
-      ∙ ap (λ (n : ℕ). shifted n (rest (get_or nexts j 0) (drop n (drop at s)))) long
-      ∙ ap (λ (t : List ℕ). shifted (to - from) (rest (get_or nexts j 0) t)) (drop-drop (to - from) at s)
+      ∙ ap (λ (n : ℕ). shifted n (rest (get_or nexts j 0) (drop n (drop at s)))) (sym a)
+      ∙ ap (λ (t : List ℕ). shifted wide (rest (get_or nexts j 0) t)) (drop-drop wide at s)
 
   module _ (n : ℕ) (m : n ≡ get_or nexts j 0) where
-    pub word_next : n < 64 → Reached rest (words_ahead q) s at (at + (to - from)) n
+    pub word_next : n < 64 → Reached rest (words_ahead q) s at (at + wide) n
     word_next l = record {
-      forward = let p : 0 < to - from = some_bytes in omega (arith, p);
+      forward = let p : 0 < wide = some_bytes in omega (arith, p);
       inside = word_inside;
       point = subst⁻¹ (λ (x : ℕ). x < 42) m (next_point j word_number (subst (λ (x : ℕ). x < 64) m l));
       goes =
-          let e : at + (to - from) - at ≡ to - from = omega arith in
-          onward ∙ ap₂ (λ (x y : ℕ). shifted x (rest y (drop (at + (to - from)) s))) (sym e) (sym m);
+          let e : at + wide - at ≡ wide = omega arith in
+          onward ∙ ap₂ (λ (x y : ℕ). shifted x (rest y (drop (at + wide) s))) (sym e) (sym m);
     }
 
-    in_comment : 64 ≤ n → words_ahead q (drop at s) ≡ shifted (to - from) (up_to (text "-->") [] (rest (n - 64)) (drop (at + (to - from)) s))
+    in_comment : 64 ≤ n → words_ahead q (drop at s) ≡ shifted wide (up_to (text "-->") [] (rest (n - 64)) (drop (at + wide) s))
     in_comment l =
         onward
-        ∙ ap (λ (x : ℕ). shifted (to - from) (rest x (drop (at + (to - from)) s))) (sym m)
-        ∙ ap (λ (r : List ℕ → Ahead). shifted (to - from) (r (drop (at + (to - from)) s)))
+        ∙ ap (λ (x : ℕ). shifted wide (rest x (drop (at + wide) s))) (sym m)
+        ∙ ap (λ (r : List ℕ → Ahead). shifted wide (r (drop (at + wide) s)))
         (ahead_comment n l (subst⁻¹ (λ (x : ℕ). x < 106) m (next_comment j word_number (subst (λ (x : ℕ). 64 ≤ x) m l))))
 
-    pub word_comment : 64 ≤ n → (z : ℕ) → ClosedAt (closing true) s (at + (to - from)) z → Reached rest (words_ahead q) s at z (n - 64)
+    pub word_comment : 64 ≤ n → (z : ℕ) → ClosedAt (closing true) s (at + wide) z → Reached rest (words_ahead q) s at z (n - 64)
     word_comment l z c = record {
       forward = omega (arith, c.forward);
       inside = c.inside;
       point = let k : n < 106 = subst⁻¹ (λ (x : ℕ). x < 106) m (next_comment j word_number (subst (λ (x : ℕ). 64 ≤ x) m l)) in omega (arith, k, l);
       goes =
-          let e : (to - from) + (z - (at + (to - from))) ≡ z - at = omega (arith, c.forward) in
+          let e : wide + (z - (at + wide)) ≡ z - at = omega (arith, c.forward) in
           in_comment l
-          ∙ ap (shifted (to - from)) (c.goes (rest (n - 64)))
-          ∙ shifted_add (to - from) (z - (at + (to - from))) (rest (n - 64) (drop z s))
+          ∙ ap (shifted wide) (c.goes (rest (n - 64)))
+          ∙ shifted_add wide (z - (at + wide)) (rest (n - 64) (drop z s))
           ∙ ap (λ (x : ℕ). shifted x (rest (n - 64) (drop z s))) e;
     }
 
-    pub word_open : 64 ≤ n → NotClosed (closing true) s (at + (to - from)) → Broken (words_ahead q) s at (length s)
+    pub word_open : 64 ≤ n → NotClosed (closing true) s (at + wide) → Broken (words_ahead q) s at (length s)
     word_open l c = record {
       forward = i;
       stops =
-          let w : at + (to - from) ≤ length s = word_inside in
-          let e : (to - from) + (length s - (at + (to - from))) ≡ length s - at = omega (arith, w) in
+          let w : at + wide ≤ length s = word_inside in
+          let e : wide + (length s - (at + wide)) ≡ length s - at = omega (arith, w) in
           in_comment l
-          ∙ ap (shifted (to - from)) (c.stops (rest (n - 64)))
-          ∙ shifted_wrong (to - from) (length s - (at + (to - from)))
+          ∙ ap (shifted wide) (c.stops (rest (n - 64)))
+          ∙ shifted_wrong wide (length s - (at + wide))
           ∙ ap wrong e;
     }
 
-    pub word_comment_by : 64 ≤ n → (d : Optional ℕ) → Closes (closing true) s (at + (to - from)) d → (z : ℕ) → d ≡ Some z → Reached rest (words_ahead q) s at z (n - 64)
-    word_comment_by l d c z e = word_comment l z (subst (Closes (closing true) s (at + (to - from))) e c)
+    pub word_comment_by : 64 ≤ n → (d : Optional ℕ) → Closes (closing true) s (at + wide) d → (z : ℕ) → d ≡ Some z → Reached rest (words_ahead q) s at z (n - 64)
+    word_comment_by l d c z e = word_comment l z (subst (Closes (closing true) s (at + wide)) e c)
 
-    pub word_open_by : 64 ≤ n → (d : Optional ℕ) → Closes (closing true) s (at + (to - from)) d → d ≡ None → Broken (words_ahead q) s at (length s)
-    word_open_by l d c e = word_open l (subst (Closes (closing true) s (at + (to - from))) e c)
+    pub word_open_by : 64 ≤ n → (d : Optional ℕ) → Closes (closing true) s (at + wide) d → d ≡ None → Broken (words_ahead q) s at (length s)
+    word_open_by l d c e = word_open l (subst (Closes (closing true) s (at + wide)) e c)
 
 pub word_missed : (s : List ℕ) (at q m : ℕ) → Missing q (drop at s) m → Broken (words_ahead q) s at (at + m)
 word_missed s at q m c = record {

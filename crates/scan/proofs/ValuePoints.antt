@@ -1,5 +1,5 @@
 -- A point in a value: the value up to its end tag, which is the last word of the point, and then the point that this word leads to.
-use mathlib.Core.Path.{◌≡◌, refl, sym, ap, ap₂, subst, subst⁻¹, ◌∙◌}
+use mathlib.Core.Path.{◌≡◌, refl, ap, ap₂, subst, subst⁻¹, ◌∙◌}
 use mathlib.Core.Bool.{Bool, ◌&&◌, ◌||◌}
 use Prim.Native.Nat.{ℕ, suc, ◌+◌, ◌-◌, ◌≤◌, ◌<◌}
 use native.Mathlib.Numerals.{add-one}
@@ -11,7 +11,7 @@ use Rattle.octets.proofs.Table as table
 use Rattle.scan.specs.Inner.Points.{firsts, starts, nexts, letters, word_at, first_word}
 use Rattle.scan.specs.Inner.Rests.{rest, rests, in_number, in_string, in_priority, in_cnf, in_negated, in_group, in_case, in_type, in_type_2, in_handling, in_part, in_uri_text, in_method_text, in_header_text, in_content_text, in_line_text, in_line_content_text, in_server_text, in_info_text}
 use Rattle.scan.specs.Inner.Tags.{last_word, as_tag, tag_of}
-use Rattle.scan.proofs.Lettered.{Placed, placed, word_long, start_order}
+use Rattle.scan.proofs.Lettered.{Placed, placed, word_long}
 use Rattle.scan.proofs.PointLaws.{All, of}
 
 abbrev pub Number : ℕ → Type 0
@@ -143,27 +143,15 @@ module _ (q end : ℕ) (h : 25 ≤ q) (k : q < 42) (e : end ≡ get_or firsts (q
   pub tag_number : end - 1 < 123
   tag_number = let t : EndTag q = end_tag q h k in let f : end ≡ first_word (suc q) = end_is in omega (arith, f, t.few, t.some_word)
 
-  pub tag_start : end - 1 < 124
-  tag_start = let n : end - 1 < 123 = tag_number in omega (arith, n)
-
-  pub tag_stop : end - 1 + 1 < 124
-  tag_stop = let n : end - 1 < 123 = tag_number in omega (arith, n)
-
-  module _ (from to : ℕ) (a : from ≡ get_or starts (end - 1) 0) (b : to ≡ get_or starts (end - 1 + 1) 0) where
-    pub tag_order : from ≤ to
-    tag_order = start_order (end - 1) from to tag_number a b
-
-    pub tag_wide : to - from ≤ 1103
+  module _ (width : ℕ) (a : width ≡ length (word_at (end - 1))) where
+    pub tag_wide : width ≤ 1103
     tag_wide =
         let p : Placed (end - 1) = placed (end - 1) tag_number in
-        let b' : to ≡ get_or starts (suc (end - 1)) 0 = rw add-one at b in
-        omega (arith, b', p.ends)
+        omega (arith, a, word_long (end - 1) tag_number, p.ends)
 
-    pub tag_is : (n : ℕ) → n ≡ get_or nexts (end - 1) 0 → as_tag (to - from) n ≡ tag_of q
+    pub tag_is : (n : ℕ) → n ≡ get_or nexts (end - 1) 0 → as_tag width n ≡ tag_of q
     unfolding tag_of
-    tag_is n c =
-        let l : length (word_at (end - 1)) ≡ to - from = word_long (end - 1) tag_number ∙ sym (rw (a, b, add-one (end - 1))) in
-        ap₂ as_tag (sym l) c ∙ ap (λ (x : ℕ). as_tag (length (word_at (x - 1))) (get_or nexts (x - 1) 0)) end_is
+    tag_is n c = ap₂ as_tag a c ∙ ap (λ (x : ℕ). as_tag (length (word_at (x - 1))) (get_or nexts (x - 1) 0)) end_is
 
   pub tag_leads : (n : ℕ) → n ≡ get_or nexts (end - 1) 0 → n < 42
   tag_leads n c =

@@ -1,6 +1,6 @@
 // The table of points (specs/Points): the words that lead from each point of a text to the next.
-ghost use Rattle.std.specs.Prelude.{◌≡◌, ◌<◌, get_or};
-ghost use Rattle.scan.specs.Inner.Points.{firsts, starts, nexts, letters};
+ghost use Rattle.std.specs.Prelude.{◌≡◌, ◌<◌, get_or, length};
+ghost use Rattle.scan.specs.Inner.Points.{firsts, starts, nexts, letters, word_at};
 
 // The number of each point's first word; those of the next point follow.
 const FIRST: [u8; 43] = [
@@ -99,6 +99,14 @@ pub fn start_of(j: usize) -> usize
     ensures { result ≡ get_or starts j 0 }
 {
     usize::from(START[j])
+}
+
+// How long word j is.
+pub fn width_of(j: usize) -> usize
+    requires { j < 123 }
+    ensures { result ≡ length (word_at j) }
+{
+    start_of(j + 1) - start_of(j)
 }
 
 pub fn next_of(j: usize) -> usize

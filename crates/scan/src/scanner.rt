@@ -7,7 +7,7 @@ ghost use Rattle.scan.specs.Inner.Rests.{plainly};
 ghost use Rattle.scan.specs.Inner.Turns.{Turns, TurnsAhead, words_ahead, scan_out};
 ghost use Rattle.scan.specs.Inner.Points.{word_at, common, class_of, run, kind_of, Chose, ends_by, closing, Closes, Found};
 
-use crate::points::{first_of, letter, next_of, start_of};
+use crate::points::{first_of, letter, next_of, start_of, width_of};
 use octets::byte_at;
 
 // How many bytes of word j stand in the text from a place on.
@@ -16,8 +16,7 @@ fn reach(s: &[u8], at: usize, j: usize) -> usize
     ensures { result ≡ common (word_at j) (drop at s.now) }
 {
     let from = start_of(j);
-    let to = start_of(j + 1);
-    let n = to - from;
+    let n = width_of(j);
     let left = s.len() - at;
     for i in 0..n {
         if left <= i {
@@ -72,10 +71,8 @@ fn choose(s: &[u8], at: usize, q: usize) -> Result<usize, usize>
     let end = first_of(q + 1);
     let mut best: usize = 0;
     for j in first_of(q)..end {
-        let from = start_of(j);
-        let to = start_of(j + 1);
         let r = reach(s, at, j);
-        if r == to - from {
+        if r == width_of(j) {
             return Ok(j);
         }
         best = best.max(r);
@@ -135,9 +132,7 @@ fn behind_word(s: &[u8], at: usize, q: usize, j: usize) -> Turn
     requires { (at ≤ length s.now) × (q < 42) × (j < 123) × Found q (drop at s.now) j }
     ensures { TurnsAhead (words_ahead q) s.now at result }
 {
-    let from = start_of(j);
-    let to = start_of(j + 1);
-    let e = at + (to - from);
+    let e = at + width_of(j);
     let next = next_of(j);
     if next < 64 {
         return Turn::Next(e, next);

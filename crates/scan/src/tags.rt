@@ -2,7 +2,7 @@
 ghost use Rattle.std.specs.Prelude.{◌≡◌, ◌≤◌, ◌<◌};
 ghost use Rattle.scan.specs.Inner.Tags.{tag_of};
 
-use crate::points::{first_of, next_of, start_of};
+use crate::points::{first_of, next_of, width_of};
 
 // How long it is, and the point behind it.
 #[derive(Clone, Copy)]
@@ -17,10 +17,8 @@ pub fn end_tag_of(q: usize) -> Tag
 {
     let end = first_of(q + 1);
     let j = end - 1;
-    let from = start_of(j);
-    let to = start_of(j + 1);
     Tag {
-        width: to - from,
+        width: width_of(j),
         next: next_of(j),
     }
 }

@@ -1,16 +1,12 @@
-use Prim.Native.Nat.{◌+◌, ◌-◌, ◌≤◌}
+use Prim.Native.Nat.{◌+◌, ◌≤◌}
 use lib.ListN.{length}
 use native.Mathlib.Omega.{arith}
-use Rattle.scan.proofs.Lettered.{start_order}
 use Rattle.scan.proofs.Turning.{word_inside, word_next, word_comment_by, word_open_by}
 use Rattle.scan.proofs.scanner.behind_word.Goals as goal
 
-pub overflow_sub-e : goal.overflow_sub-e
-overflow_sub-e c = search start_order
-
 pub overflow_add-e : goal.overflow_add-e
 overflow_add-e c =
-    let p : c.args.at + (c.start_of-to.result - c.start_of-from.result) ≤ length c.args.s.now = search word_inside in
+    let p : c.args.at + c.width_of.result ≤ length c.args.s.now = search word_inside in
     omega (arith, p)
 
 pub returns-then-next-lt64 : goal.returns-then-next-lt64

@@ -1,14 +1,15 @@
-use Rattle.scan.proofs.Lettered.{reach_first, reach_inside, reach_in_text, reach_short, reach_end, reach_other, reach_next, start_order}
+use Rattle.scan.proofs.Lettered.{reach_first, reach_inside, reach_in_text, reach_short, reach_end, reach_other, reach_next}
+use native.Mathlib.Omega.{arith}
 use Rattle.scan.proofs.scanner.reach.Goals as goal
-
-pub overflow_sub-n : goal.overflow_sub-n
-overflow_sub-n c = search start_order
 
 pub loop-i-init : goal.loop-i-init
 loop-i-init c = search reach_first
 
 pub returns-then-left-i : goal.returns-then-left-i
 returns-then-left-i c = search reach_short
+
+pub overflow_add-from : goal.overflow_add-from
+overflow_add-from c = record { fits = omega (arith, reach_inside _ _ _ _ _ _ _ c.loop-i.invariant c.loop-i-test.true) }
 
 pub letter-a-requires : goal.letter-a-requires
 letter-a-requires c = search reach_inside
