@@ -38,7 +38,7 @@ fn try_pieces(v: &[u8], content: &Prepared<'_>) -> Verdict
         let x = contents::next_value(v, p);
         let m = content.meets(&v[x.start..x.end]);
         p = x.next;
-        fits = fits | m;
+        fits |= m;
         trials += 1;
     }
     Verdict { fits, trials }
@@ -100,7 +100,7 @@ pub fn try_fields(
         let field = request.field(i);
         let name = contents::as_matched(field.name, &long);
         let r = try_field(name, field.value, patterns, room);
-        fits = fits | r.fits;
+        fits |= r.fits;
         trials += r.trials;
     }
     Verdict { fits, trials }
@@ -155,7 +155,7 @@ pub fn try_lines(body: &[u8], patterns: &RowPatterns<'_>) -> Verdict
             } => {
                 let r = try_line(&body[start..start + 1], &body[value..end], patterns);
                 p = next;
-                fits = fits | r.fits;
+                fits |= r.fits;
                 trials += r.trials;
                 continue;
             }
