@@ -18,7 +18,7 @@ pub fn pass_value(s: &[u8], at: usize, q: usize) -> Value
     requires { (at ≤ length s.now) × (length s.now ≤ 65535) × (25 ≤ q) × (q < 42) }
     ensures { Passes q s.now at result }
 {
-    let end = place_of(s, at, 60);
+    let end = place_of(s, at, b'<');
     let tag = end_tag_of(q);
     Value {
         end,

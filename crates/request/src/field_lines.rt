@@ -13,7 +13,7 @@ fn is_field(table: &[u8; 256], l: &[u8]) -> bool
     requires { Classes table.now }
     ensures { result ≡ is_field l.now }
 {
-    let k = cuts::place_of(l, 0, 58);
+    let k = cuts::place_of(l, 0, b':');
     if l.len() <= k {
         return false;
     }
@@ -26,10 +26,10 @@ fn line_break_at(h: &[u8], i: usize) -> bool
     requires { i < length h.now }
     ensures { result ≡ line_break (drop i h.now) }
 {
-    if h[i] != 13 {
+    if h[i] != b'\r' {
         return false;
     }
-    if octets::byte_at(h, i + 1) != 10 {
+    if octets::byte_at(h, i + 1) != b'\n' {
         return false;
     }
     if cuts::is_white(octets::byte_at(h, i + 2)) {
@@ -43,12 +43,12 @@ pub(crate) fn line_end(h: &[u8], from: usize) -> usize
     requires { from ≤ length h.now }
     ensures { result ≡ from + first line_break (drop from h.now) }
 {
-    let mut k = cuts::place_of(h, from, 13);
+    let mut k = cuts::place_of(h, from, b'\r');
     while k < h.len() {
         if line_break_at(h, k) {
             return k;
         }
-        k = cuts::place_of(h, k + 1, 13);
+        k = cuts::place_of(h, k + 1, b'\r');
     }
     k
 }

@@ -12,13 +12,13 @@ pub(crate) fn bytes_right(h: &[u8]) -> bool
         if (32 <= b) & (b <= 126) {
             i += 1;
         } else {
-            if b == 13 {
-                if octets::byte_at(h, i + 1) != 10 {
+            if b == b'\r' {
+                if octets::byte_at(h, i + 1) != b'\n' {
                     return false;
                 }
                 i += 2;
             } else {
-                if !((b == 9) | (128 <= b)) {
+                if !((b == b'\t') | (128 <= b)) {
                     return false;
                 }
                 i += 1;

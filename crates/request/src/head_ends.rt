@@ -9,16 +9,16 @@ fn empty_line_at(s: &[u8], i: usize) -> bool
     requires { i < length s.now }
     ensures { result ≡ begins empty_line (drop i s.now) }
 {
-    if s[i] != 13 {
+    if s[i] != b'\r' {
         return false;
     }
-    if octets::byte_at(s, i + 1) != 10 {
+    if octets::byte_at(s, i + 1) != b'\n' {
         return false;
     }
-    if octets::byte_at(s, i + 2) != 13 {
+    if octets::byte_at(s, i + 2) != b'\r' {
         return false;
     }
-    if octets::byte_at(s, i + 3) != 10 {
+    if octets::byte_at(s, i + 3) != b'\n' {
         return false;
     }
     true
@@ -33,7 +33,7 @@ fn every_second(s: &[u8], from: usize) -> usize
 {
     let mut k = from;
     while k < s.len() {
-        if s[k] <= 13 {
+        if s[k] <= b'\r' {
             return k;
         }
         k += 2;
@@ -48,7 +48,7 @@ pub fn head_end(s: &[u8]) -> usize
 {
     let mut k = every_second(s, 1);
     while k < s.len() {
-        if s[k] == 10 {
+        if s[k] == b'\n' {
             if empty_line_at(s, k - 1) {
                 return k - 1;
             }

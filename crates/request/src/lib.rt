@@ -38,7 +38,7 @@ fn judge_lines(h: &[u8]) -> Option<HeadPlaces>
     requires { (length h.now ≤ 65535) × T (paired 0 h.now) }
     ensures { result ≡ judged h.now (read_head (head_lines h.now) []) }
 {
-    let n = cuts::place_of(h, 0, 13);
+    let n = cuts::place_of(h, 0, b'\r');
     // "none may follow the start line directly" (document 01): no line that continues it
     if cuts::is_white(octets::byte_at(h, n + 2)) {
         return None;
@@ -88,7 +88,7 @@ fn fill(h: &[u8], from: usize, lent: &mut [FieldPlace]) -> usize
     let mut n: usize = 0;
     while p <= h.len() {
         let e = line_end(h, p);
-        let k = cuts::place_of(&h[p..e], 0, 58);
+        let k = cuts::place_of(&h[p..e], 0, b':');
         lent[n] = FieldPlace {
             start: p as u16,
             colon: (p + k) as u16,

@@ -59,11 +59,11 @@ fn start_parts_right(l: &[u8], m: usize, u: usize) -> bool
 pub(crate) fn start_line(l: &[u8]) -> Option<StartPlaces>
     ensures { result ≡ start_places (start_line l.now) }
 {
-    let m = cuts::place_of(l, 0, 32);
+    let m = cuts::place_of(l, 0, b' ');
     if l.len() <= m {
         return None;
     }
-    let u = cuts::place_of(l, m + 1, 32);
+    let u = cuts::place_of(l, m + 1, b' ');
     if l.len() <= u {
         return None;
     }
