@@ -3,14 +3,12 @@
 
 ghost use Rattle.std.specs.Prelude.{◌≡◌, ◌+◌, ◌≤◌, length};
 ghost use Rattle.std.proofs.Math.Option.{some};
-ghost use Rattle.cells.specs.Inner.Answers.{Table};
-ghost use Rattle.profile.specs.Inner.Decoded.{stored_in, string_of};
-ghost use Rattle.profile.specs.Inner.Kept.{Judges};
+ghost use Rattle.profile.specs.Inner.Decoded.{strings, string_of};
 ghost use Rattle.lookups.specs.Lookups.{no_part, the_part, part_of, server as server-of, information as information-of, Checks, Serves, Informs};
 ghost use Rattle.lookups.specs.Inner.Looking.{Found};
 
-use entries::{Criterion, read_criterion};
-use profile::Judgement;
+use entries::Criterion;
+use profile::AcceptedImage;
 
 // What the check of an image answers: the refusal number (0 if none) and its place.
 #[derive(Clone, Copy)]
@@ -29,19 +27,20 @@ pub struct Lookup {
     pub size: u32,
 }
 
-fn refusal_of(j: &Judgement) -> Checked
-    ensures { (result.refusal ≡ j.now.refusal) × (result.place ≡ j.now.place) }
-{
-    Checked {
-        refusal: j.refusal,
-        place: j.place,
-    }
-}
-
 pub fn check(image: &[u8]) -> Checked
     ensures { Checks image.now result }
 {
-    refusal_of(&profile::judge(image))
+    let mut table = [0u16; 1024];
+    match profile::accept(image, &mut table) {
+        Ok(_) => Checked {
+            refusal: 0,
+            place: 0,
+        },
+        Err(e) => Checked {
+            refusal: u32::from(e.fault),
+            place: e.place as u32,
+        },
+    }
 }
 
 fn no_part_with(refusal: u32, place: u32) -> Lookup
@@ -57,11 +56,10 @@ fn no_part_with(refusal: u32, place: u32) -> Lookup
 }
 
 // String i as a part of the image; the empty one where there is none.
-fn stored_part(s: &[u8], table: &[u16; 1024], n: usize, i: usize) -> Lookup
-    requires { Table s.now n table.now × (length s.now ≤ 32768) }
-    ensures { result ≡ the_part (some (string_of (stored_in s.now n table.now) i)) }
+fn stored_part(image: &AcceptedImage<'_>, i: usize) -> Lookup
+    ensures { result ≡ the_part (some (string_of (strings image.now.bytes.now) i)) }
 {
-    if n <= i {
+    if image.layout.strings <= i {
         return Lookup {
             refusal: 0,
             place: 0,
@@ -70,8 +68,8 @@ fn stored_part(s: &[u8], table: &[u16; 1024], n: usize, i: usize) -> Lookup
             size: 0,
         };
     }
-    let o = usize::from(table[i]);
-    let size = cells::number(s, o);
+    let o = usize::from(image.table[i]);
+    let size = cells::number(image.bytes, o);
     Lookup {
         refusal: 0,
         place: 0,
@@ -81,42 +79,43 @@ fn stored_part(s: &[u8], table: &[u16; 1024], n: usize, i: usize) -> Lookup
     }
 }
 
-// The numbers of a criterion, or the refusal: that of the image, or 13 where it has no such criterion.
-fn criterion_of(image: &[u8], j: &Judgement, criterion: u32) -> Result<Criterion, Checked>
-    requires { Judges image.now j.now }
-    ensures { Found image.now j.now criterion result }
+// The numbers of a criterion, where the image has it.
+fn criterion_of(image: &AcceptedImage<'_>, criterion: u32) -> Option<Criterion>
+    ensures { Found image.now.bytes.now criterion result }
 {
-    if j.refusal != 0 {
-        return Err(refusal_of(j));
-    }
     let i = criterion as usize;
-    if j.layout.criterion_count <= i {
-        return Err(Checked {
-            refusal: 13,
-            place: 0,
-        });
+    if image.layout.criterion_count <= i {
+        return None;
     }
-    Ok(read_criterion(image, j.layout.criteria + 15 * i))
+    Some(image.criterion(i))
 }
 
 pub fn server(image: &[u8], criterion: u32) -> Lookup
     ensures { Serves image.now criterion result }
 {
-    let j = profile::judge(image);
-    match criterion_of(image, &j, criterion) {
-        Ok(c) => stored_part(image, &j.table, j.layout.strings, c.server),
-        Err(e) => no_part_with(e.refusal, e.place),
+    let mut table = [0u16; 1024];
+    let accepted = match profile::accept(image, &mut table) {
+        Ok(accepted) => accepted,
+        Err(e) => return no_part_with(u32::from(e.fault), e.place as u32),
+    };
+    match criterion_of(&accepted, criterion) {
+        Some(c) => stored_part(&accepted, c.server),
+        None => no_part_with(13, 0),
     }
 }
 
 pub fn information(image: &[u8], criterion: u32) -> Lookup
     ensures { Informs image.now criterion result }
 {
-    let j = profile::judge(image);
-    match criterion_of(image, &j, criterion) {
-        Ok(c) if c.info == 65535 => no_part_with(0, 0),
-        Ok(c) => stored_part(image, &j.table, j.layout.strings, c.info),
-        Err(e) => no_part_with(e.refusal, e.place),
+    let mut table = [0u16; 1024];
+    let accepted = match profile::accept(image, &mut table) {
+        Ok(accepted) => accepted,
+        Err(e) => return no_part_with(u32::from(e.fault), e.place as u32),
+    };
+    match criterion_of(&accepted, criterion) {
+        Some(c) if c.info == 65535 => no_part_with(0, 0),
+        Some(c) => stored_part(&accepted, c.info),
+        None => no_part_with(13, 0),
     }
 }
 

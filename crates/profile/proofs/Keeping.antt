@@ -1,19 +1,19 @@
--- From the judgement by places to what is kept of an image, and to what it holds.
-use mathlib.Core.Path.{◌≡◌, sym, ap, ap₂, ◌∙◌, subst}
-use Prim.Native.Nat.{ℕ, ◌≤◌}
-use mathlib.Core.List.{List, []}
+-- From the judgement by places to an image that stands, or to why it is refused.
+use mathlib.Core.Path.{◌≡◌, sym, ap, ◌∙◌, subst}
+use Prim.Native.Nat.{ℕ}
+use mathlib.Core.List.{List}
 use lib.ListN.{replicate}
 use Rattle.profile.specs.Image.{accepted, refused}
 use Rattle.profile.specs.Judging as judging
 use Rattle.profile.specs.Inner.Places as places
 use Rattle.profile.specs.Inner.Decoded.{layout, profile_in, judged_by}
 use Rattle.profile.specs.Inner.Answers.{judged_out, Laid}
-use Rattle.profile.specs.Inner.Kept.{kept, judgement, string_table, Judges}
+use Rattle.profile.specs.Inner.Kept.{string_table, Standing}
+use Rattle.profile.specs.Inner.Accepting.{Refuses}
 use Rattle.profile.specs.declared.Layout.{Layout}
 use Rattle.std.specs.Prelude.{Result, Ok, Err}
 use Rattle.cells.specs.Inner.Answers.{number_of}
 use Rattle.cells.specs.declared.Refusal.{Refusal}
-use Rattle.profile.specs.declared.Judgement.{Judgement}
 use Rattle.profile.proofs.Same.{judge_same}
 use Rattle.profile.proofs.Placed.{placed_low}
 
@@ -24,15 +24,10 @@ module _ (s table : List ℕ) (r : Result Layout Refusal) (e : judged_out r s ta
   is_accepted : (y : Layout) → r ≡ Ok y → judging.judge s ≡ accepted (profile_in s)
   is_accepted y g = judge_same s ∙ ap (judged_by s) (sym e ∙ ap (λ (x : Result Layout Refusal). judged_out x s table) g)
 
-  pub place_low : (f : Refusal) → r ≡ Err f → f.place ≤ 32768
-  place_low f g = (placed_low s (number_of f.fault) f.place (is_refused f g)).0
-
-  pub judged_no : (f : Refusal) (m : ℕ) (a : Judgement) → r ≡ Err f → m ≡ number_of f.fault → a ≡ kept [] (refused m f.place) → Judges s a
-  unfolding judgement
-  judged_no f m a g n h = record { answer = h ∙ ap (λ (k : ℕ). kept [] (refused k f.place)) n ∙ sym (ap (kept s) (is_refused f g)) }
-
-  pub judged_yes : (y : Layout) → r ≡ Ok y → Laid r s (replicate 1024 0) table → Judges s (record { refusal = 0; place = 0; layout = y; table = table })
-  unfolding judgement
-  judged_yes y g l =
+  pub stands : (y : Layout) → r ≡ Ok y → Laid r s (replicate 1024 0) table → Standing s table y
+  stands y g l =
       let w : (y ≡ layout s) × (table ≡ string_table s) = subst (λ (x : Result Layout Refusal). Laid x s (replicate 1024 0) table) g l in
-      record { answer = ap₂ (λ (z : Layout) (t : List ℕ). record { refusal = 0; place = 0; layout = z; table = t }) w.0 w.1 ∙ sym (ap (kept s) (is_accepted y g)) }
+      record { accepts = is_accepted y g; layout_is = w.0; table_is = w.1 }
+
+  pub refuses : (f : Refusal) → r ≡ Err f → Refuses s f
+  refuses f g = record { refuses = is_refused f g; low = (placed_low s (number_of f.fault) f.place (is_refused f g)).0 }

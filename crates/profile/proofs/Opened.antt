@@ -7,7 +7,7 @@ use native.Mathlib.Omega.{arith}
 use mathlib.Core.List.{List, [], ◌∷◌, ◌++◌, map}
 use lib.ListN.{length, take, drop, get_or, get_elem?, replicate, get_or-append, length-append, length-drop, length-replicate}
 use lib.Seq.{take_at}
-use Rattle.profile.specs.Image.{Judged, accepted, refused}
+use Rattle.profile.specs.Image.{accepted}
 use Rattle.profile.specs.Judging.{judge}
 use Rattle.cells.specs.Inner.Out.{good}
 use Rattle.cells.specs.Inner.Places as cells
@@ -18,11 +18,9 @@ use Rattle.entries.specs.Inner.Places.{spaced}
 use Rattle.profile.specs.Inner.Decoded.{layout, strings, stored, stored_in, profile_in}
 use Rattle.cells.specs.Inner.Answers.{Table}
 use Rattle.profile.specs.Inner.Answers.{opening}
-use Rattle.profile.specs.Inner.Kept.{kept, judgement, string_table, Judges}
+use Rattle.profile.specs.Inner.Kept.{Standing}
 use Rattle.profile.specs.declared.Layout.{Layout}
-use Rattle.profile.specs.declared.Judgement.{Judgement}
 use Rattle.profile.proofs.Same.{Laid, laid, accepted_good}
-use Rattle.profile.proofs.Placed.{placed_low}
 use Rattle.cells.proofs.Laws.{bind_inv, good_inj}
 use Rattle.cells.proofs.Texts.{sized_inv}
 use Rattle.profile.proofs.ImageLaws.{judge_opens, strings_on, opening_inv, opening_count}
@@ -66,41 +64,16 @@ spaced_past item w at (suc n) (suc k) h = spaced_past item w (at + w) n k (le_of
 
 -- ---- an accepted image
 
-pub record Opened (s : List ℕ) (j : Judgement) : Type 0 where
+pub record Opened (s : List ℕ) : Type 0 where
   pub accepts : judge s ≡ accepted (profile_in s)
-  pub layout_is : j.layout ≡ layout s
-  pub table_is : j.table ≡ string_table s
   pub size : length s ≤ 32768
   pub end : (layout s).criteria + 15 * (layout s).criterion_count ≡ length s
 
-refused_not : (n : ℕ) {place : ℕ} (s : List ℕ) → judge s ≡ refused n place → n ≡ 0 → ⊥
-refused_not n {place} s e z = let h = placed_low s n place e in omega (arith, h.1)
-
-pub opened : (s : List ℕ) (j : Judgement) → Judges s j → j.refusal ≡ 0 → Opened s j
-unfolding judgement
-opened s j h z = go (judge s) refl h.answer
-  where
-    go : (d : Judged) → judge s ≡ d → j ≡ kept s d → Opened s j
-    go (accepted p) e f =
-        let (q, g, k) = accepted_good s p e in
-        let l : Laid s q = laid s q g in
-        record {
-          accepts = e ∙ ap accepted k;
-          layout_is = ap (λ (x : Judgement). x.layout) f;
-          table_is = ap (λ (x : Judgement). x.table) f;
-          size = l.size;
-          end = l.end;
-        }
-    go (refused n place) e f = absurd (refused_not n s e (sym (ap (λ (x : Judgement). x.refusal) f) ∙ z))
-
--- its place, where nothing is refused
-pub no_place : (s : List ℕ) (j : Judgement) → Judges s j → j.refusal ≡ 0 → j.place ≡ 0
-unfolding judgement
-no_place s j h z = go (judge s) refl h.answer
-  where
-    go : (d : Judged) → judge s ≡ d → j ≡ kept s d → j.place ≡ 0
-    go (accepted p) e f = ap (λ (x : Judgement). x.place) f
-    go (refused n place) e f = absurd (refused_not n s e (sym (ap (λ (x : Judgement). x.refusal) f) ∙ z))
+pub opened : (s : List ℕ) → judge s ≡ accepted (profile_in s) → Opened s
+opened s e =
+    let (q, g, k) = accepted_good s (profile_in s) e in
+    let l : Laid s q = laid s q g in
+    record { accepts = e; size = l.size; end = l.end }
 
 -- ---- the strings
 
@@ -138,45 +111,37 @@ strings_read s p e =
     let z : n ≡ word s 1 = opening_count s n o in
     (subst (λ (m : ℕ). m ≤ 1024) z (opening_inv s n o).1, q, subst (λ (m : ℕ). reading_strings s m 3 ≡ good q) z f)
 
-module _ (s : List ℕ) (j : Judgement) (h : Judges s j) (z : j.refusal ≡ 0) where
-  many_strings : j.layout.strings ≡ word s 1
+module _ (s table : List ℕ) (y : Layout) (k : Standing s table y) where
+  many_strings : y.strings ≡ word s 1
   unfolding layout
-  many_strings = ap (λ (y : Layout). y.strings) (opened s j h z).layout_is
+  many_strings = ap (λ (z : Layout). z.strings) k.layout_is
 
   read_strings : (word s 1 ≤ 1024) × (q : List (List ℕ) × ℕ) × (reading_strings s (word s 1) 3 ≡ good q)
-  read_strings = let (p, e, k) = accepted_good s (profile_in s) (opened s j h z).accepts in strings_read s p e
+  read_strings = let (p, e, same) = accepted_good s (profile_in s) k.accepts in strings_read s p e
 
-  table_at : (k : ℕ) → k < word s 1 → get_or j.table k 0 ≡ get_or (offsets s (word s 1) 3) k 0
-  table_at k l =
-      ap (λ (t : List ℕ). get_or t k 0) (opened s j h z).table_is
-      ∙ get_or-append (offsets s (word s 1) 3) (drop (word s 1) (replicate 1024 0)) 0 k (omega (arith, offsets_length s (word s 1) 3))
+  table_at : (i : ℕ) → i < word s 1 → get_or table i 0 ≡ get_or (offsets s (word s 1) 3) i 0
+  table_at i l =
+      ap (λ (t : List ℕ). get_or t i 0) k.table_is
+      ∙ get_or-append (offsets s (word s 1) 3) (drop (word s 1) (replicate 1024 0)) 0 i (omega (arith, offsets_length s (word s 1) 3))
 
   -- the table names the strings, each of which lies in the image
-  pub table_of : Table s j.layout.strings j.table
+  pub table_of : Table s y.strings table
   unfolding reading_strings
   table_of =
       let (few, q, e) = read_strings in
       record {
         count = omega (arith, many_strings, few);
         long =
-            ap length (opened s j h z).table_is ∙ length-append (offsets s (word s 1) 3) (drop (word s 1) (replicate 1024 0))
+            ap length k.table_is ∙ length-append (offsets s (word s 1) 3) (drop (word s 1) (replicate 1024 0))
             ∙ omega (arith, offsets_length s (word s 1) 3, length-drop {A = ℕ} (word s 1) (replicate 1024 0), length-replicate {A = ℕ} 1024 0, few);
-        inside = λ k m.
-            let low : k < word s 1 = omega (arith, many_strings) in
-            subst (λ (o : ℕ). o + 2 + word s o ≤ length s) (sym (table_at k low)) (offsets_inside s (word s 1) 3 [] q e k low);
+        inside = λ i m.
+            let low : i < word s 1 = omega (arith, many_strings) in
+            subst (λ (o : ℕ). o + 2 + word s o ≤ length s) (sym (table_at i low)) (offsets_inside s (word s 1) 3 [] q e i low);
       }
 
   -- and they are the image's strings
-  pub strings_are : stored_in s j.layout.strings j.table ≡ strings s
+  pub strings_are : stored_in s y.strings table ≡ strings s
   unfolding strings
   strings_are =
-      ap₂ (λ (n : ℕ) (t : List ℕ). map (stored s) (take n t)) many_strings (opened s j h z).table_is
+      ap₂ (λ (n : ℕ) (t : List ℕ). map (stored s) (take n t)) many_strings k.table_is
       ∙ ap (map (stored s)) (take_at (offsets s (word s 1) 3) (drop (word s 1) (replicate 1024 0)) (word s 1) (offsets_length s (word s 1) 3))
-
-  -- criterion k lies in the image
-  pub criterion_inside : (k : ℕ) → k < j.layout.criterion_count → j.layout.criteria + 15 * k + 15 ≤ length s
-  criterion_inside k l =
-      let y = (opened s j h z).layout_is in
-      let a : j.layout.criteria ≡ (layout s).criteria = ap (λ (y : Layout). y.criteria) y in
-      let b : j.layout.criterion_count ≡ (layout s).criterion_count = ap (λ (y : Layout). y.criterion_count) y in
-      omega (arith, a, b, (opened s j h z).end)

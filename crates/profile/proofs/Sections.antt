@@ -8,7 +8,6 @@ use lib.ListN.{length, get_elem?}
 use Rattle.octets.proofs.Options.{Ok}
 use Rattle.octets.proofs.Each.{each_at}
 use Rattle.profile.specs.Inner.Decoded.{layout, strings, row_from, member_from, criterion_from, profile_in}
-use Rattle.profile.specs.declared.Judgement.{Judgement}
 use Rattle.profile.proofs.Accepted.{Fine, Sound, accepted_sound}
 use Rattle.profile.proofs.Opened.{Opened, spaced_length, spaced_at}
 
@@ -22,7 +21,7 @@ pub record Lies (s : List ℕ) : Type 0 where
   pub members_few : (layout s).member_count ≤ 16384
   pub criteria_few : (layout s).criterion_count ≤ 64
 
-module _ (s : List ℕ) (j : Judgement) (o : Opened s j) where
+module _ (s : List ℕ) (o : Opened s) where
   sound : Sound s (profile_in s)
   sound = accepted_sound s (profile_in s) o.accepts
 

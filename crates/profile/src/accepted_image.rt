@@ -8,7 +8,7 @@ ghost use Rattle.profile.specs.Inner.Kept.{Standing};
 use crate::{Layout, string_bytes};
 use entries::{Criterion, Row, read_criterion, read_row};
 
-// Its bytes, where its strings stand, and where its sections lie, as `judge` found them.
+// Its bytes, where its strings stand, and where its sections lie, as `accept` found them.
 #[derive(Clone, Copy)]
 pub struct AcceptedImage<'a> {
     pub bytes: &'a [u8],

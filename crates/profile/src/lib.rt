@@ -1,11 +1,10 @@
 // Judges a profile image: accepted, or refused with a number and a place.
 #![tactic(auto)]
 
-ghost use Rattle.std.specs.Prelude.{◌≡◌, [], length};
+ghost use Rattle.std.specs.Prelude.{◌≡◌, length};
 ghost use Rattle.cells.specs.Inner.Answers.{field_out, Table};
-ghost use Rattle.profile.specs.Image.{refused};
 ghost use Rattle.profile.specs.Inner.Places.{judge_by_places};
-ghost use Rattle.profile.specs.Inner.Kept.{kept, Judges};
+ghost use Rattle.profile.specs.Inner.Accepting.{Accepts};
 ghost use Rattle.profile.specs.Inner.Decoded.{stored_in, string_of};
 ghost use Rattle.profile.specs.Inner.Answers.{Laid, opening, judged_out};
 
@@ -79,49 +78,18 @@ fn judge_image(s: &[u8], table: &mut [u16; 1024]) -> Result<Layout, Refusal>
 
 // ---- what the crates above call
 
-// What is kept of a judged image: the refusal with its place, or 0 and where its sections and strings lie.
-#[derive(Clone, Copy)]
-pub struct Judgement {
-    pub refusal: u32,
-    pub place: u32,
-    pub layout: Layout,
-    pub table: [u16; 1024],
-}
-
-fn refused_with(number: u32, place: u32) -> Judgement
-    ensures { result ≡ kept [] (refused number place) }
+// An image is judged once a call; what later steps need of it stands in the accepted image. The lent table is cleared first: whatever it
+// held, zeros stand behind the offsets of the strings.
+pub fn accept<'a>(bytes: &'a [u8], table: &'a mut [u16; 1024]) -> Result<AcceptedImage<'a>, Refusal>
+    ensures { Accepts bytes.now result }
 {
-    Judgement {
-        refusal: number,
-        place,
-        layout: Layout {
-            edition: 0,
-            strings: 0,
-            rows: 0,
-            row_count: 0,
-            members: 0,
-            member_count: 0,
-            criteria: 0,
-            criterion_count: 0,
-        },
-        table: [0u16; 1024],
-    }
-}
-
-// An image is judged once a call; what later steps need of it is kept.
-pub fn judge(s: &[u8]) -> Judgement
-    ensures { Judges s.now result }
-{
-    let mut table = [0u16; 1024];
-    match judge_image(s, &mut table) {
-        Ok(layout) => Judgement {
-            refusal: 0,
-            place: 0,
-            layout,
-            table,
-        },
-        Err(refusal) => refused_with(u32::from(refusal.fault), refusal.place as u32),
-    }
+    *table = [0u16; 1024];
+    let layout = judge_image(bytes, table)?;
+    Ok(AcceptedImage {
+        bytes,
+        table,
+        layout,
+    })
 }
 
 // The bytes of string i: a part of the image, no copy; none where there is no such string.

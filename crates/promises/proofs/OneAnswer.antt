@@ -1,12 +1,21 @@
 -- What each contract cites leaves one answer, and one content of every lent place.
 use mathlib.Core.Bool.{Bool}
-use Rattle.std.specs.Prelude.{Option}
-use mathlib.Core.Path.{◌≡◌, sym, ap₂, ◌∙◌}
+use mathlib.Core.Path.{◌≡◌, refl, sym, ap, ap₂, ◌∙◌}
 use Prim.Native.Nat.{ℕ}
 use mathlib.Core.List.{List}
-use Rattle.profile.specs.Image.{Row, Criterion}
-use Rattle.profile.specs.Inner.Kept.{Judges}
-use Rattle.profile.specs.declared.Judgement.{Judgement}
+use native.Mathlib.Omega.{arith}
+use lib.Dec.{eqb}
+use Rattle.std.specs.Prelude.{Option as Found, Result, Ok, Err}
+use Rattle.octets.specs.Lists.{pick}
+use Rattle.cells.specs.Inner.Answers.{number_of}
+use Rattle.cells.specs.declared.Fault.{Fault}
+use Rattle.cells.specs.declared.Fault.TheVariants.{TooLong, TooShort, Trailing, OutOfRange, WrongString, RepeatedPriority}
+use Rattle.cells.specs.declared.Refusal.{Refusal}
+use Rattle.profile.specs.Image.{Row, Criterion, Profile, Judged, accepted, refused}
+use Rattle.profile.specs.Judging.{judge}
+use Rattle.profile.specs.Inner.Accepting.{Accepts}
+use Rattle.profile.specs.declared.accepted_image.AcceptedImage.{AcceptedImage}
+use Rattle.profile.proofs.Standings.{refused_as, stands_as}
 use Rattle.lookups.specs.Lookups.{Checks, Serves, Informs}
 use Rattle.lookups.specs.declared.Checked.{Checked}
 use Rattle.lookups.specs.declared.Lookup.{Lookup}
@@ -60,10 +69,46 @@ one_listing h k = (h.answer ∙ sym k.answer, h.places ∙ sym k.places)
 
 -- ---- between our crates
 
-pub one_judgement : {s : List ℕ} {a b : Judgement} → Judges s a → Judges s b → a ≡ b
-one_judgement h k = h.answer ∙ sym k.answer
+-- the fault of a number
+fault_of : ℕ → Fault
+fault_of n = pick (eqb n 1) TooLong (pick (eqb n 2) TooShort (pick (eqb n 3) Trailing (pick (eqb n 4) OutOfRange (pick (eqb n 5) WrongString RepeatedPriority))))
 
-pub one_reading : {s starts colons starts' starts'' colons' colons'' : List ℕ} {a b : Option Places} → Read s starts colons starts' colons' a → Read s starts colons starts'' colons'' b
+its_fault : (f : Fault) → fault_of (number_of f) ≡ f
+unfolding fault_of
+its_fault TooLong = refl
+its_fault TooShort = refl
+its_fault Trailing = refl
+its_fault OutOfRange = refl
+its_fault WrongString = refl
+its_fault RepeatedPriority = refl
+
+one_refusal : (e f : Refusal) → refused (number_of e.fault) e.place ≡ refused (number_of f.fault) f.place → e ≡ f
+one_refusal e f q =
+    let n : number_of e.fault ≡ number_of f.fault = cc in
+    let p : e.place ≡ f.place = cc in
+    ap₂ (λ (x : Fault) (y : ℕ). record { fault = x; place = y }) (sym (its_fault e.fault) ∙ ap fault_of n ∙ its_fault f.fault) p
+
+not_both : (d : Judged) {p : Profile} {n place : ℕ} → d ≡ accepted p → d ≡ refused n place → ⊥
+not_both (accepted q) e f = let z : ◌≡◌ {A = ℕ} 0 1 = cc in omega arith
+not_both (refused m w) e f = let z : ◌≡◌ {A = ℕ} 0 1 = cc in omega arith
+
+-- the same refusal, or an image with the same bytes, the same table of its strings and the same layout
+abbrev pub Alike : Result AcceptedImage Refusal → Result AcceptedImage Refusal → Type 0
+Alike (Ok a) (Ok b) = (a.bytes.now ≡ b.bytes.now) × (a.table.now ≡ b.table.now) × (a.layout ≡ b.layout)
+Alike (Ok a) (Err f) = ⊥
+Alike (Err e) (Ok b) = ⊥
+Alike (Err e) (Err f) = e ≡ f
+
+pub one_judgement : (s : List ℕ) (a b : Result AcceptedImage Refusal) → Accepts s a → Accepts s b → Alike a b
+one_judgement s (Ok a) (Ok b) h k =
+    let x = stands_as s a h in
+    let y = stands_as s b k in
+    (h ∙ sym k, x.table_is ∙ sym y.table_is, x.layout_is ∙ sym y.layout_is)
+one_judgement s (Ok a) (Err f) h k = not_both (judge s) (stands_as s a h).accepts (refused_as s f k)
+one_judgement s (Err e) (Ok b) h k = not_both (judge s) (stands_as s b k).accepts (refused_as s e h)
+one_judgement s (Err e) (Err f) h k = one_refusal e f (sym (refused_as s e h) ∙ refused_as s f k)
+
+pub one_reading : {s starts colons starts' starts'' colons' colons'' : List ℕ} {a b : Found Places} → Read s starts colons starts' colons' a → Read s starts colons starts'' colons'' b
     → (a ≡ b) × (starts' ≡ starts'') × (colons' ≡ colons'')
 one_reading h k = (h.answer ∙ sym k.answer, h.starts_are ∙ sym k.starts_are, h.colons_are ∙ sym k.colons_are)
 

@@ -1,17 +1,20 @@
 -- The call: row k of an image that stands, the request, and the image.
-use Rattle.std.specs.Prelude.{Option as Found, Some, None}
+use Rattle.std.specs.Prelude.{Option as Found, Some, None, Ok, Err}
 use mathlib.Core.Option.{Option, none, some}
 use mathlib.Core.Path.{◌≡◌, sym, ap, ◌∙◌}
 use mathlib.Core.List.{List}
 use Prim.Native.Nat.{ℕ, ◌+◌, ◌*◌, ◌≤◌, ◌<◌}
 use lib.ListN.{get_elem?}
+use Rattle.cells.specs.Inner.Answers.{number_of}
+use Rattle.cells.specs.declared.Refusal.{Refusal}
 use Rattle.entries.specs.Inner.Places.{row_numbers}
 use Rattle.entries.specs.declared.Row.{Row}
 use Rattle.profile.specs.Inner.Decoded.{strings, test_from, row_from, profile_in}
 use Rattle.profile.specs.Image.{Judged}
 use Rattle.profile.specs.Image as image
-use Rattle.profile.specs.Inner.Kept.{Judges, Standing, nth_row}
-use Rattle.profile.specs.declared.Judgement.{Judgement}
+use Rattle.profile.specs.Inner.Kept.{Standing, nth_row}
+use Rattle.profile.specs.Inner.Accepting.{Accepts}
+use Rattle.profile.specs.declared.accepted_image.AcceptedImage.{AcceptedImage}
 use Rattle.profile.specs.declared.Layout.{Layout}
 use Rattle.profile.proofs.Standings.{row_is, row_past, refused_as, stands_as, accepted_as}
 use Rattle.request.specs.Request.{Request, read_request}
@@ -53,15 +56,18 @@ module _ (s starts colons starts' colons' : List ℕ) (rd : Found Places) (read 
 
 -- ---- the image
 
-module _ (img r : List ℕ) (k : ℕ) (j : Judgement) (ej : Judges img j) (a : Answer) where
-  pub show_fault : (j.refusal ≡ 0 → ⊥) → a ≡ refuse_show j.refusal j.place → Shows img r k a
+module _ (img r : List ℕ) (k : ℕ) where
+  pub show_fault : (e : Refusal) → Accepts img (Err e) → (n : ℕ) → n ≡ number_of e.fault → (a : Answer) → a ≡ refuse_show n e.place → Shows img r k a
   unfolding show
-  show_fault n ea = record { answer = ea ∙ sym (ap (λ (d : Judged). show_judged d r k) (refused_as img j ej n)) }
+  show_fault e h n en a ea = record {
+    answer = ea ∙ ap (λ (m : ℕ). refuse_show m e.place) en ∙ sym (ap (λ (d : Judged). show_judged d r k) (refused_as img e h));
+  }
 
-  pub show_over : j.refusal ≡ 0 → (n : ℕ) → n ≡ k → a ≡ show_read (profile_in img) (read_request r) n → Shows img r k a
+  pub show_over : (i : AcceptedImage) → Accepts img (Ok i) → (n : ℕ) → n ≡ k → (a : Answer) → a ≡ show_read (profile_in i.bytes.now) (read_request r) n → Shows img r k a
   unfolding show
-  show_over z n en ea = record {
+  show_over i h n en a ea = record {
     answer =
-        ea ∙ ap (λ (m : ℕ). show_read (profile_in img) (read_request r) m) en
-        ∙ sym (ap (λ (d : Judged). show_judged d r k) (accepted_as img j.table j.layout (stands_as img j ej z)));
+        ea ∙ ap (λ (m : ℕ). show_read (profile_in i.bytes.now) (read_request r) m) en
+        ∙ ap (λ (s : List ℕ). show_read (profile_in s) (read_request r) k) h
+        ∙ sym (ap (λ (d : Judged). show_judged d r k) (accepted_as img i.table.now i.layout (stands_as img i h)));
   }

@@ -1,5 +1,8 @@
-use Rattle.lookups.proofs.Looking.{checked_is}
+use Rattle.lookups.proofs.Looking.{checks_accepted, checks_refused}
 use Rattle.lookups.proofs.check.Goals as goal
 
-pub returns : goal.returns
-returns c = search checked_is
+pub returns-in-Ok : goal.returns-in-Ok
+returns-in-Ok c = checks_accepted _ c.in-Ok.field-0 c.in-Ok.ensures
+
+pub returns-in-Err : goal.returns-in-Err
+returns-in-Err c = checks_refused _ _ c.in-Err.ensures _ c.from.ensures
