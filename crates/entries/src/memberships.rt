@@ -24,12 +24,7 @@ fn member_at(s: &[u8], rows: usize, last: Option<Member>, at: usize) -> Result<M
 }
 
 // The memberships, from a place on: how many each row has goes into `counts`.
-pub fn members(
-    s: &[u8],
-    n: usize,
-    start: usize,
-    counts: &mut [u16],
-) -> Result<usize, Refusal>
+pub fn members(s: &[u8], n: usize, start: usize, counts: &mut [u16]) -> Result<usize, Refusal>
     requires { (start ≤ 60000) × (n ≤ 16384) × (counts.old ≡ replicate (length counts.old) 0) }
     ensures { Counted result s.now (length counts.old) n start counts.new }
 {

@@ -125,6 +125,6 @@ module _ (strs : List Stored) (r : Row) (matchable : Matchable strs r) (not_case
       → v ≡ patterns_shown q (not p.name.for_names) p.name.bytes.now (is_some p.content) (content_bytes p.content) → v ≡ test_shown q (test_from strs r)
   kept_shown p k v ev =
       pattern_shown p.name.bytes.now c k.name_is refl v (
-        ev ∙ ap₂ (λ (n w : Bool). patterns_shown q (not n) p.name.bytes.now w (content_bytes p.content)) k.for_names k.content.present
-            ∙ content_free q (not (eqb r.kind 2)) p.name.bytes.now (content_bytes p.content) c (absent r) (λ e. k.content.named (eqb-false r.second 65535 e))
+      ev ∙ ap₂ (λ (n w : Bool). patterns_shown q (not n) p.name.bytes.now w (content_bytes p.content)) k.for_names k.content.present
+      ∙ content_free q (not (eqb r.kind 2)) p.name.bytes.now (content_bytes p.content) c (absent r) (λ e. k.content.named (eqb-false r.second 65535 e))
       )
