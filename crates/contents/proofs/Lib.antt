@@ -1,5 +1,6 @@
 pub mod BodyLines
 pub mod Describing
+pub mod FieldLines
 pub mod Laws
 pub mod Norm
 pub mod Shortening

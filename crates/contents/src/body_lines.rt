@@ -1,10 +1,11 @@
 // The lines of a body.
 ghost use Rattle.std.specs.Prelude.{◌≡◌, ◌+◌, ◌≤◌, ltb, length};
 ghost use Rattle.cuts.specs.Inner.Parts.{part};
+ghost use Rattle.contents.specs.Inner.Lines.{NextField};
 ghost use Rattle.contents.specs.Inner.Places.{body_line};
 ghost use Rattle.contents.specs.Inner.Steps.{ended_line};
 
-use crate::BodyLine;
+use crate::{BodyLine, FieldLine};
 
 // Where the line of a body that stands from a place to k ends: before a CR that an LF follows.
 fn line_stop(b: &[u8], from: usize, k: usize) -> usize
@@ -46,5 +47,33 @@ pub fn next_line(b: &[u8], from: usize) -> BodyLine
         value: from + 2,
         end: e,
         next,
+    }
+}
+
+// The first line of a body, from a place on, that is a field.
+pub fn next_field_line(b: &[u8], from: usize) -> Option<FieldLine<'_>>
+    requires { length b.now ≤ 65535 }
+    ensures { NextField b.now from result }
+{
+    let mut at = from;
+    loop {
+        match next_line(b, at) {
+            BodyLine::Done => {
+                return None;
+            }
+            BodyLine::Other { next } => at = next,
+            BodyLine::Typed {
+                start,
+                value,
+                end,
+                next,
+            } => {
+                return Some(FieldLine {
+                    kind: &b[start..start + 1],
+                    value: &b[value..end],
+                    next,
+                });
+            }
+        }
     }
 }

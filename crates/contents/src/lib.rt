@@ -7,7 +7,7 @@ mod description;
 mod names;
 mod pieces;
 
-pub use crate::body_lines::next_line;
+pub use crate::body_lines::{next_field_line, next_line};
 pub use crate::description::is_description;
 pub use crate::names::{as_matched, long_names, never_cut};
 pub use crate::pieces::{next_value, normalise};
@@ -33,4 +33,12 @@ pub enum BodyLine {
         next: usize,
     },
     Done,
+}
+
+// A line of a body that is a field: its type, one byte, and its value. Behind it the next line starts at `next`.
+#[derive(Clone, Copy)]
+pub struct FieldLine<'a> {
+    pub kind: &'a [u8],
+    pub value: &'a [u8],
+    pub next: usize,
 }

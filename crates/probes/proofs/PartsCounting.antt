@@ -1,5 +1,5 @@
 -- The loop over the lines of a body, and the answer as a whole.
-use Rattle.std.specs.Prelude.{Option as Answer, None}
+use Rattle.std.specs.Prelude.{Option as Answer, Some, None}
 use mathlib.Core.Option.{some}
 use mathlib.Core.Path.{◌≡◌, sym, ap, ◌∙◌, subst}
 use mathlib.Core.List.{List, []}
@@ -8,10 +8,11 @@ use native.Mathlib.Omega.{arith}
 use lib.ListN.{length}
 use Rattle.octets.proofs.Kept.{total_mono, total_const}
 use Rattle.contents.specs.Body.{session_lines}
-use Rattle.contents.specs.Inner.Places.{body_line, session_from}
-use Rattle.contents.specs.declared.BodyLine.{BodyLine}
-use Rattle.contents.specs.declared.BodyLine.TheVariants.{Typed, Other, Done}
-use Rattle.contents.proofs.BodyLines.{TypedAt, OtherAt, LineSays, line_says, session_start}
+use Rattle.contents.specs.Inner.Places.{session_from}
+use Rattle.contents.specs.Inner.Lines.{FieldLineAt, NextField}
+use Rattle.contents.specs.declared.FieldLine.{FieldLine}
+use Rattle.contents.proofs.BodyLines.{session_start}
+use Rattle.contents.proofs.FieldLines.{line_here, line_none}
 use Rattle.request.specs.Request.{request_lines}
 use Rattle.request.specs.Inner.Places.{Read, Placed, request_of}
 use Rattle.request.specs.declared.Places.{Places}
@@ -36,42 +37,20 @@ lining_first body = record {
   few = omega arith;
 }
 
-module _ (body : List ℕ) (p : ℕ) (x : BodyLine) (ex : x ≡ body_line body p) where
-  said : LineSays body p x
-  said = subst (LineSays body p) (sym ex) (line_says body p)
-
-  pub lining_end : x ≡ Done → (n : ℕ) → Lining body p n → n ≡ length (session_lines body)
+module _ (body : List ℕ) (p : ℕ) (x : Answer FieldLine) (says : NextField body p x) where
+  pub lining_end : x ≡ None → (n : ℕ) → Lining body p n → n ≡ length (session_lines body)
   lining_end e n w =
-      let past : session_from body p ≡ [] = subst (LineSays body p) e said in
+      let past : session_from body p ≡ [] = line_none body p x says e in
       omega (arith, w.sum, ap length past)
 
-  module _ (next : ℕ) (e : x ≡ Other next) where
-    other : OtherAt body p next
-    other = subst (LineSays body p) e said
-
-    pub other_less : length body + 1 - next < length body + 1 - p
-    other_less = omega (arith, other.on, other.next_inside)
-
-    pub lining_other : (n : ℕ) → Lining body p n → Lining body next n
-    lining_other n w = record {
-      sum = omega (arith, w.sum, ap length other.list);
-      inside = other.next_inside;
-      few = omega (arith, w.few, other.on);
-    }
-
-  module _ (start value end next : ℕ) (e : x ≡ Typed start value end next) where
-    typed : TypedAt body p start value end next
-    typed = subst (LineSays body p) e said
-
-    pub typed_less : length body + 1 - next < length body + 1 - p
-    typed_less = omega (arith, typed.on, typed.next_inside)
-
-    pub lining_next : (n : ℕ) → Lining body p n → Lining body next (n + 1)
-    lining_next n w = record {
-      sum = omega (arith, w.sum, ap length typed.list);
-      inside = typed.next_inside;
-      few = omega (arith, w.few, typed.on);
-    }
+  pub lining_next : (l : FieldLine) → x ≡ Some l → (n : ℕ) → Lining body p n → Lining body l.next (n + 1)
+  lining_next l e n w =
+      let here : FieldLineAt body p l = line_here body p x says l e in
+      record {
+        sum = omega (arith, w.sum, ap length here.list);
+        inside = here.next_inside;
+        few = omega (arith, w.few, here.on);
+      }
 
 pub lining_room : (body : List ℕ) (p n : ℕ) → Lining body p n → length body ≤ 65535 → n + 1 < 4294967296
 lining_room body p n w short = omega (arith, w.few, w.inside)

@@ -1,5 +1,6 @@
 -- The loops over the fields and over the lines: the first with a spot in it.
 use mathlib.Core.Bool.{Bool, true, false}
+use Rattle.std.specs.Prelude.{Option, Some, None}
 use mathlib.Core.Path.{◌≡◌, refl, sym, ap, ◌∙◌, subst}
 use mathlib.Core.List.{List, [], ◌∷◌}
 use Prim.Native.Nat.{ℕ, suc, ◌+◌, ◌≤◌, ◌<◌}
@@ -7,15 +8,14 @@ use native.Mathlib.Numerals.{add-one}
 use native.Mathlib.Omega.{arith}
 use lib.ListN.{length, drop, drop_of_length-le}
 use Rattle.octets.specs.Lists.{pick}
-use Rattle.cuts.specs.Inner.Parts.{part}
-use Rattle.cuts.proofs.Parts.{length_part}
 use Rattle.contents.specs.Body.{Line, session_lines}
 use Rattle.contents.specs.Names.{name_as_matched}
-use Rattle.contents.specs.Inner.Places.{body_line, session_from}
+use Rattle.contents.specs.Inner.Places.{session_from}
 use Rattle.contents.specs.Values.{reduced, values_of}
-use Rattle.contents.specs.declared.BodyLine.{BodyLine}
-use Rattle.contents.specs.declared.BodyLine.TheVariants.{Typed, Other, Done}
-use Rattle.contents.proofs.BodyLines.{TypedAt, OtherAt, LineSays, line_says, session_start}
+use Rattle.contents.specs.Inner.Lines.{FieldLineAt, NextField}
+use Rattle.contents.specs.declared.FieldLine.{FieldLine}
+use Rattle.contents.proofs.BodyLines.{session_start}
+use Rattle.contents.proofs.FieldLines.{line_here, line_none}
 use Rattle.request.specs.Request.{Field}
 use Rattle.request.specs.Inner.Places.{Placed, request_of, FieldIs}
 use Rattle.request.specs.declared.Places.{Places}
@@ -103,58 +103,46 @@ lining_first h with c body = record {
   inside = omega arith;
 }
 
-module _ (body : List ℕ) (p : ℕ) (x : BodyLine) (ex : x ≡ body_line body p) (h : List ℕ) (with : Bool) (c : List ℕ) (i : ℕ)
+module _ (body : List ℕ) (p : ℕ) (x : Option FieldLine) (says : NextField body p x) (h : List ℕ) (with : Bool) (c : List ℕ) (i : ℕ)
     (w : Lining h with c body p i) where
-  said : LineSays body p x
-  said = subst (LineSays body p) (sym ex) (line_says body p)
-
-  pub lining_end : x ≡ Done → (z : Shown) → z ≡ none_shown → z ≡ first_shown (line_spot h with c) 0 (session_lines body)
+  pub lining_end : x ≡ None → (z : Shown) → z ≡ none_shown → z ≡ first_shown (line_spot h with c) 0 (session_lines body)
   unfolding first_shown
-  lining_end e z ez = ez ∙ sym (ap (first_shown (line_spot h with c) i) (subst (LineSays body p) e said)) ∙ w.same
+  lining_end e z ez = ez ∙ sym (ap (first_shown (line_spot h with c) i) (line_none body p x says e)) ∙ w.same
 
-  pub lining_other : (next : ℕ) → x ≡ Other next → Lining h with c body next i
-  lining_other next e =
-      let other : OtherAt body p next = subst (LineSays body p) e said in
-      record {
-        same = sym (ap (first_shown (line_spot h with c) i) other.list) ∙ w.same;
-        few = omega (arith, w.few, other.on);
-        inside = other.next_inside;
-      }
+  module _ (l : FieldLine) (e : x ≡ Some l) where
+    this_line : FieldLineAt body p l
+    this_line = line_here body p x says l e
 
-  module _ (start value end next : ℕ) (e : x ≡ Typed start value end next) where
-    typed : TypedAt body p start value end next
-    typed = subst (LineSays body p) e said
-
-    pub line_value_short : length body ≤ 65535 → length (part body value end) ≤ 65535
-    line_value_short short = omega (arith, length_part body value end typed.value_order typed.value_inside, typed.value_inside)
+    pub line_value_short : length body ≤ 65535 → length l.value.now ≤ 65535
+    line_value_short short = omega (arith, this_line.short)
 
     pub count_room : length body ≤ 65535 → i + 1 < 18446744073709551616
     count_room short = omega (arith, w.few, w.inside)
 
-    module _ (y : Spot) (ey : y ≡ item_spot false h with c (part body start (start + 1)) (part body value end ∷ [])) where
+    module _ (y : Spot) (ey : y ≡ item_spot false h with c l.kind.now (l.value.now ∷ [])) where
       abbrev the_line : Line
-      the_line = record { type = part body start (start + 1); value = part body value end }
+      the_line = record { type = l.kind.now; value = l.value.now }
 
       line_spot_is : y ≡ line_spot h with c the_line
       unfolding line_spot
       line_spot_is = ey
 
-      line_here : (b : Bool) → y.found ≡ b
-          → pick b (shown_in i y) (first_shown (line_spot h with c) (suc i) (session_from body next))
+      line_answer : (b : Bool) → y.found ≡ b
+          → pick b (shown_in i y) (first_shown (line_spot h with c) (suc i) (session_from body l.next))
           ≡ first_shown (line_spot h with c) 0 (session_lines body)
-      line_here b f =
-          by_found (line_spot h with c) i the_line (session_from body next) y line_spot_is b f
-          ∙ sym (ap (first_shown (line_spot h with c) i) typed.list) ∙ w.same
+      line_answer b f =
+          by_found (line_spot h with c) i the_line (session_from body l.next) y line_spot_is b f
+          ∙ sym (ap (first_shown (line_spot h with c) i) this_line.list) ∙ w.same
 
       pub lining_found : y.found ≡ true → (z : Shown) → z ≡ shown_in i y → z ≡ first_shown (line_spot h with c) 0 (session_lines body)
-      lining_found f z ez = ez ∙ line_here true f
+      lining_found f z ez = ez ∙ line_answer true f
 
       pub lining_low : length body ≤ 65535 → LowSpot y → (z : Shown) → z ≡ shown_in i y → LowShown z
       lining_low short low z ez = shown_low i y (omega (arith, w.few, w.inside)) low z ez
 
-      pub lining_next : y.found ≡ false → Lining h with c body next (i + 1)
+      pub lining_next : y.found ≡ false → Lining h with c body l.next (i + 1)
       lining_next f = record {
-        same = ap (λ (n : ℕ). first_shown (line_spot h with c) n (session_from body next)) (add-one i) ∙ line_here false f;
-        few = omega (arith, w.few, typed.on);
-        inside = typed.next_inside;
+        same = ap (λ (n : ℕ). first_shown (line_spot h with c) n (session_from body l.next)) (add-one i) ∙ line_answer false f;
+        few = omega (arith, w.few, this_line.on);
+        inside = this_line.next_inside;
       }

@@ -11,7 +11,6 @@ ghost use Rattle.trials.specs.Inner.Patterns.{content_bytes};
 ghost use Rattle.spots.specs.Spots.{no_spot, bare_spot, none_shown, shown_in, first_shown};
 ghost use Rattle.spots.specs.Inner.Steps.{values_spot, item_spot, field_spot, line_spot, LowSpot, LowShown};
 
-use contents::BodyLine;
 use pattern::Prepared;
 use request::ReadableRequest;
 use trials::RowPatterns;
@@ -200,30 +199,14 @@ pub fn show_lines(body: &[u8], patterns: &RowPatterns<'_>) -> Shown
     ensures { (result ≡ first_shown (line_spot patterns.now.name.bytes.now (is_some patterns.now.content) (content_bytes patterns.now.content)) 0 (session_lines body.now)) × LowShown result }
 {
     let mut i: usize = 0;
-    let mut p: usize = 0;
-    loop {
-        match contents::next_line(body, p) {
-            BodyLine::Done => {
-                return none_shown();
-            }
-            BodyLine::Other { next } => {
-                p = next;
-                continue;
-            }
-            BodyLine::Typed {
-                start,
-                value,
-                end,
-                next,
-            } => {
-                let x = spot_in_line(&body[start..start + 1], &body[value..end], patterns);
-                if x.found {
-                    return shown_in(i, x);
-                }
-                p = next;
-                i += 1;
-                continue;
-            }
+    let mut at = 0;
+    while let Some(line) = contents::next_field_line(body, at) {
+        let x = spot_in_line(line.kind, line.value, patterns);
+        if x.found {
+            return shown_in(i, x);
         }
+        at = line.next;
+        i += 1;
     }
+    none_shown()
 }

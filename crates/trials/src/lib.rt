@@ -12,7 +12,6 @@ ghost use Rattle.trials.specs.Inner.Patterns.{content_bytes};
 mod row_patterns;
 
 pub use crate::row_patterns::RowPatterns;
-use contents::BodyLine;
 use pattern::Prepared;
 use request::ReadableRequest;
 
@@ -137,28 +136,12 @@ pub fn try_lines(body: &[u8], patterns: &RowPatterns<'_>) -> Verdict
 {
     let mut fits = false;
     let mut trials: u32 = 0;
-    let mut p: usize = 0;
-    loop {
-        match contents::next_line(body, p) {
-            BodyLine::Done => {
-                return Verdict { fits, trials };
-            }
-            BodyLine::Other { next } => {
-                p = next;
-                continue;
-            }
-            BodyLine::Typed {
-                start,
-                value,
-                end,
-                next,
-            } => {
-                let r = try_line(&body[start..start + 1], &body[value..end], patterns);
-                p = next;
-                fits |= r.fits;
-                trials += r.trials;
-                continue;
-            }
-        }
+    let mut at = 0;
+    while let Some(line) = contents::next_field_line(body, at) {
+        let r = try_line(line.kind, line.value, patterns);
+        at = line.next;
+        fits |= r.fits;
+        trials += r.trials;
     }
+    Verdict { fits, trials }
 }

@@ -5,9 +5,9 @@ use Rattle.trials.specs.Inner.Patterns.{content_bytes}
 use Rattle.trials.proofs.Lining.{Lining}
 use Rattle.trials.proofs.try_lines.Given as goal
 
-abbrev pub invariant-loop-next : goal.invariant-loop-next
-invariant-loop-next l =
-    Lining l.patterns.name.bytes.now (is_some l.patterns.content) (content_bytes l.patterns.content) l.body l.p l.fits l.trials
+abbrev pub invariant-loop-line : goal.invariant-loop-line
+invariant-loop-line l =
+    Lining l.patterns.name.bytes.now (is_some l.patterns.content) (content_bytes l.patterns.content) l.body l.at l.fits l.trials
 
-abbrev pub decreases-loop-next : goal.decreases-loop-next
-decreases-loop-next l = length l.body + 1 - l.p
+abbrev pub decreases-loop-line : goal.decreases-loop-line
+decreases-loop-line l = length l.body + 1 - l.at

@@ -1,24 +1,19 @@
 use borrow.Author.Rules.{rules}
-use Rattle.probes.proofs.PartsCounting.{lining_first, lining_end, other_less, lining_other, typed_less, lining_next, lining_room}
+use Rattle.contents.proofs.FieldLines.{line_less}
+use Rattle.probes.proofs.PartsCounting.{lining_first, lining_end, lining_next, lining_room}
 use Rattle.probes.proofs.counts.count_lines.Goals as goal
 
-pub loop-next-init : goal.loop-next-init
-loop-next-init c = search lining_first
-
-pub returns-in-Done : goal.returns-in-Done
-returns-in-Done c = search lining_end
-
-pub loop-next-smaller-in-Other : goal.loop-next-smaller-in-Other
-loop-next-smaller-in-Other c = search other_less
-
-pub loop-next-preserved-in-Other : goal.loop-next-preserved-in-Other
-loop-next-preserved-in-Other c = search lining_other
+pub loop-line-init : goal.loop-line-init
+loop-line-init c = search lining_first
 
 pub overflow_add-n : goal.overflow_add-n
 overflow_add-n c = search (rules, lining_room)
 
-pub loop-next-smaller : goal.loop-next-smaller
-loop-next-smaller c = search typed_less
+pub loop-line-smaller : goal.loop-line-smaller
+loop-line-smaller c = search line_less
 
-pub loop-next-preserved : goal.loop-next-preserved
-loop-next-preserved c = search lining_next
+pub loop-line-preserved : goal.loop-line-preserved
+loop-line-preserved c = search lining_next
+
+pub returns : goal.returns
+returns c = search lining_end

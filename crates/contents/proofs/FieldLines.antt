@@ -1,0 +1,76 @@
+-- The walk to the next line of a body that is a field.
+use mathlib.Core.Path.{◌≡◌, refl, sym, ap, ◌∙◌, subst}
+use mathlib.Core.List.{List, [], ◌∷◌}
+use Rattle.std.specs.Prelude.{Option, Some, None}
+use Prim.Native.Nat.{ℕ, ◌+◌, ◌-◌, ◌≤◌, ◌<◌}
+use native.Mathlib.Omega.{arith}
+use lib.ListN.{length}
+use Rattle.cuts.specs.Inner.Parts.{part}
+use Rattle.contents.specs.Body.{Line}
+use Rattle.contents.specs.Inner.Places.{body_line, session_from}
+use Rattle.contents.specs.declared.BodyLine.{BodyLine}
+use Rattle.contents.specs.declared.BodyLine.TheVariants.{Typed, Other, Done}
+use Rattle.contents.specs.declared.FieldLine.{FieldLine}
+use Rattle.contents.specs.Inner.Lines.{FieldLineAt, NextField}
+use Rattle.cuts.proofs.Parts.{length_part}
+use Rattle.contents.proofs.BodyLines.{TypedAt, OtherAt, LineSays, line_says}
+
+-- no line from the place `from` to `at` is a field
+pub record Passed (b : List ℕ) (from at : ℕ) : Type 0 where
+  pub same : session_from b from ≡ session_from b at
+  pub on : from ≤ at
+
+pub passed_none : (b : List ℕ) (from : ℕ) → Passed b from from
+passed_none b from = record { same = refl; on = omega arith }
+
+module _ (b : List ℕ) (from at : ℕ) (w : Passed b from at) (x : BodyLine) (ex : x ≡ body_line b at) where
+  said : LineSays b at x
+  said = subst (LineSays b at) (sym ex) (line_says b at)
+
+  pub passed_all : x ≡ Done → session_from b from ≡ []
+  passed_all e = w.same ∙ subst (LineSays b at) e said
+
+  module _ (next : ℕ) (e : x ≡ Other next) where
+    other : OtherAt b at next
+    other = subst (LineSays b at) e said
+
+    pub other_less : length b + 1 - next < length b + 1 - at
+    other_less = omega (arith, other.on, other.next_inside)
+
+    pub passed_other : Passed b from next
+    passed_other = record { same = w.same ∙ other.list; on = omega (arith, w.on, other.on) }
+
+  module _ (start value end next : ℕ) (e : x ≡ Typed start value end next) where
+    typed : TypedAt b at start value end next
+    typed = subst (LineSays b at) e said
+
+    pub type_room : length b ≤ 65535 → start + 1 < 18446744073709551616
+    type_room short = omega (arith, typed.type_inside)
+
+    pub type_inside : start + 1 ≤ length b
+    type_inside = omega (arith, typed.type_inside)
+
+    pub value_order : value ≤ end
+    value_order = typed.value_order
+
+    pub value_inside : end ≤ length b
+    value_inside = typed.value_inside
+
+    pub field_line : (l : FieldLine) → l.kind.now ≡ part b start (start + 1) → l.value.now ≡ part b value end → l.next ≡ next → FieldLineAt b from l
+    field_line l ek ev en = record {
+      list = w.same ∙ typed.list ∙ (λ i. record { type = sym ek i; value = sym ev i } ∷ session_from b (sym en i));
+      short = omega (arith, ap (λ (v : List ℕ). length v) ev, length_part b value end typed.value_order typed.value_inside, typed.value_inside);
+      on = omega (arith, w.on, typed.on, en);
+      next_inside = omega (arith, typed.next_inside, en);
+    }
+
+-- ---- what a walk over them goes by
+
+pub line_here : (b : List ℕ) (p : ℕ) (x : Option FieldLine) → NextField b p x → (l : FieldLine) → x ≡ Some l → FieldLineAt b p l
+line_here b p x says l e = subst (NextField b p) e says
+
+pub line_less : (b : List ℕ) (p : ℕ) (x : Option FieldLine) → NextField b p x → (l : FieldLine) → x ≡ Some l → length b + 1 - l.next < length b + 1 - p
+line_less b p x says l e = let h = line_here b p x says l e in omega (arith, h.on, h.next_inside)
+
+pub line_none : (b : List ℕ) (p : ℕ) (x : Option FieldLine) → NextField b p x → x ≡ None → session_from b p ≡ []
+line_none b p x says e = subst (NextField b p) e says

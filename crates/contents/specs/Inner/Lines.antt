@@ -1,0 +1,17 @@
+-- The lines of a body that are fields, one after the other.
+use Rattle.std.specs.Prelude.{◌≡◌, ℕ, ◌+◌, ◌≤◌, ◌<◌, List, [], ◌∷◌, length, Option, Some, None}
+use Rattle.contents.specs.Body.{Line}
+use Rattle.contents.specs.Inner.Places.{session_from}
+use Rattle.contents.specs.declared.FieldLine.{FieldLine}
+
+-- the first line that is a field, from p on
+pub record FieldLineAt (b : List ℕ) (p : ℕ) (l : FieldLine) : Type 0 where
+  pub list : session_from b p ≡ record { type = l.kind.now; value = l.value.now } ∷ session_from b l.next
+  pub short : length l.value.now ≤ length b
+  pub on : p < l.next
+  pub next_inside : l.next ≤ length b + 1
+
+-- none from p on
+abbrev pub NextField : List ℕ → ℕ → Option FieldLine → Type 0
+NextField b p None = session_from b p ≡ []
+NextField b p (Some l) = FieldLineAt b p l
