@@ -1,8 +1,8 @@
 pub mod BodyLines
 pub mod Describing
-pub mod FieldLines
 pub mod Laws
 pub mod Norm
 pub mod Shortening
 pub mod Small
 pub mod Values
+pub mod Walks

@@ -1,3 +1,3 @@
-pub mod Lines
 pub mod Places
 pub mod Steps
+pub mod Walks

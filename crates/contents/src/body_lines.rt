@@ -1,7 +1,7 @@
 // The lines of a body.
 ghost use Rattle.std.specs.Prelude.{◌≡◌, ◌+◌, ◌≤◌, ltb, length};
 ghost use Rattle.cuts.specs.Inner.Parts.{part};
-ghost use Rattle.contents.specs.Inner.Lines.{NextField};
+ghost use Rattle.contents.specs.Inner.Walks.{NextField};
 ghost use Rattle.contents.specs.Inner.Places.{body_line};
 ghost use Rattle.contents.specs.Inner.Steps.{ended_line};
 

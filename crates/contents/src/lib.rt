@@ -10,7 +10,7 @@ mod pieces;
 pub use crate::body_lines::{next_field_line, next_line};
 pub use crate::description::is_description;
 pub use crate::names::{as_matched, long_names, never_cut};
-pub use crate::pieces::{next_value, normalise};
+pub use crate::pieces::{next_cut, next_value, normalise};
 
 // A piece of a value, trimmed: it stands from start to end; the next one is to be looked for at next, if that is not past the value's end.
 #[derive(Clone, Copy)]
@@ -40,5 +40,12 @@ pub enum BodyLine {
 pub struct FieldLine<'a> {
     pub kind: &'a [u8],
     pub value: &'a [u8],
+    pub next: usize,
+}
+
+// A value that a reduced value is cut into. The next one is to be looked for at `next`.
+#[derive(Clone, Copy)]
+pub struct CutValue<'a> {
+    pub bytes: &'a [u8],
     pub next: usize,
 }

@@ -5,8 +5,9 @@ ghost use Rattle.cuts.specs.Inner.Searching.{span};
 ghost use Rattle.contents.specs.Inner.Places.{piece_at};
 ghost use Rattle.contents.specs.Inner.Steps.{space, mode_of};
 ghost use Rattle.contents.specs.Values.{plain, step, cuts, reduced};
+ghost use Rattle.contents.specs.Inner.Walks.{NextCut};
 
-use crate::Piece;
+use crate::{CutValue, Piece};
 
 // Where a byte of a value stands: in plain text, in quoted text, in it just after `\`, or in `<>`.
 #[derive(Clone, Copy)]
@@ -121,4 +122,19 @@ pub fn next_value(v: &[u8], from: usize) -> Piece
         end: stop,
         next: k + 1,
     }
+}
+
+// The first value that a reduced value is cut into, from a place on; none past its end.
+pub fn next_cut(v: &[u8], from: usize) -> Option<CutValue<'_>>
+    requires { length v.now ≤ 65535 }
+    ensures { NextCut v.now from result }
+{
+    if v.len() < from {
+        return None;
+    }
+    let x = next_value(v, from);
+    Some(CutValue {
+        bytes: &v[x.start..x.end],
+        next: x.next,
+    })
 }

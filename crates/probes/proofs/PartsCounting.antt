@@ -3,16 +3,16 @@ use Rattle.std.specs.Prelude.{Option as Answer, Some, None}
 use mathlib.Core.Option.{some}
 use mathlib.Core.Path.{◌≡◌, sym, ap, ◌∙◌, subst}
 use mathlib.Core.List.{List, []}
-use Prim.Native.Nat.{ℕ, ◌+◌, ◌-◌, ◌≤◌, ◌<◌}
+use Prim.Native.Nat.{ℕ, ◌+◌, ◌≤◌, ◌<◌}
 use native.Mathlib.Omega.{arith}
 use lib.ListN.{length}
 use Rattle.octets.proofs.Kept.{total_mono, total_const}
 use Rattle.contents.specs.Body.{session_lines}
 use Rattle.contents.specs.Inner.Places.{session_from}
-use Rattle.contents.specs.Inner.Lines.{FieldLineAt, NextField}
+use Rattle.contents.specs.Inner.Walks.{FieldLineAt, NextField}
 use Rattle.contents.specs.declared.FieldLine.{FieldLine}
 use Rattle.contents.proofs.BodyLines.{session_start}
-use Rattle.contents.proofs.FieldLines.{line_here, line_none}
+use Rattle.contents.proofs.Walks.{line_here, line_none}
 use Rattle.request.specs.Request.{request_lines}
 use Rattle.request.specs.Inner.Places.{Read, Placed, request_of}
 use Rattle.request.specs.declared.Places.{Places}

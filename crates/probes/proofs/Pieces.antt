@@ -1,16 +1,19 @@
 -- The values of one field: the loop over the pieces, and the two ways to their number.
 use mathlib.Core.Bool.{Bool, true, false}
-use mathlib.Core.Path.{◌≡◌, sym, ap, ◌∙◌, subst}
+use Rattle.std.specs.Prelude.{Option, Some, None}
+use mathlib.Core.Path.{◌≡◌, sym, ap, ◌∙◌}
 use mathlib.Core.List.{List}
 use Prim.Native.Nat.{ℕ, ◌+◌, ◌-◌, ◌≤◌, ◌<◌}
 use native.Mathlib.Omega.{arith}
 use lib.ListN.{length, take}
 use Rattle.cuts.specs.Inner.Parts.{over}
-use Rattle.contents.specs.Inner.Places.{values_from, piece_at}
+use Rattle.contents.specs.Inner.Places.{values_from}
+use Rattle.contents.specs.Inner.Walks.{CutAt, NextCut}
 use Rattle.contents.specs.Values.{reduced, never_cut, values_of}
-use Rattle.contents.specs.declared.Piece.{Piece}
+use Rattle.contents.specs.declared.CutValue.{CutValue}
 use Rattle.contents.proofs.Laws.{reduced_front}
-use Rattle.contents.proofs.Values.{ValueAt, value_says, values_past, values_cut, values_whole}
+use Rattle.contents.proofs.Values.{values_cut, values_whole}
+use Rattle.contents.proofs.Walks.{cut_here, cut_none}
 
 -- the values before p are counted
 pub record Piecing (v : List ℕ) (p n : ℕ) : Type 0 where
@@ -22,25 +25,21 @@ module _ (v : List ℕ) where
   pub piecing_first : Piecing v 0 0
   piecing_first = record { sum = omega arith; inside = omega arith; few = omega arith }
 
-  module _ (p : ℕ) (x : Piece) (ex : x ≡ piece_at v p) (h : p ≤ length v) where
-    said : ValueAt v p x
-    said = subst (ValueAt v p) (sym ex) (value_says v p h)
+  module _ (p n : ℕ) (w : Piecing v p n) (x : Option CutValue) (says : NextCut v p x) where
+    pub piecing_next : (r : CutValue) → x ≡ Some r → Piecing v r.next (n + 1)
+    piecing_next r e =
+        let here : CutAt v p r = cut_here v p x says r e in
+        record {
+          sum = omega (arith, w.sum, ap length here.list);
+          inside = here.next_inside;
+          few = omega (arith, w.few, here.on);
+        }
 
-    pub piece_less : length v + 1 - x.next < length v + 1 - p
-    piece_less = omega (arith, said.on, said.next_inside)
+    pub piecing_room : length v ≤ 65535 → n + 1 < 4294967296
+    piecing_room short = omega (arith, w.few, w.inside)
 
-    pub piecing_next : (n : ℕ) → Piecing v p n → Piecing v x.next (n + 1)
-    piecing_next n w = record {
-      sum = omega (arith, w.sum, ap length said.list);
-      inside = said.next_inside;
-      few = omega (arith, w.few, said.on);
-    }
-
-  pub piecing_room : (p n : ℕ) → Piecing v p n → length v ≤ 65535 → p ≤ length v → n + 1 < 4294967296
-  piecing_room p n w short h = omega (arith, w.few)
-
-  pub piecing_end : (p n : ℕ) → Piecing v p n → length v < p → n ≡ length (values_from v 0)
-  piecing_end p n w h = omega (arith, w.sum, ap length (values_past v p h))
+    pub piecing_end : x ≡ None → n ≡ length (values_from v 0)
+    piecing_end e = omega (arith, w.sum, ap length (cut_none v p x says e))
 
 -- ---- by the name as it is matched
 

@@ -12,10 +12,10 @@ use Rattle.contents.specs.Body.{Line, session_lines}
 use Rattle.contents.specs.Names.{name_as_matched}
 use Rattle.contents.specs.Inner.Places.{session_from}
 use Rattle.contents.specs.Values.{reduced, values_of}
-use Rattle.contents.specs.Inner.Lines.{FieldLineAt, NextField}
+use Rattle.contents.specs.Inner.Walks.{FieldLineAt, NextField}
 use Rattle.contents.specs.declared.FieldLine.{FieldLine}
 use Rattle.contents.proofs.BodyLines.{session_start}
-use Rattle.contents.proofs.FieldLines.{line_here, line_none}
+use Rattle.contents.proofs.Walks.{line_here, line_none}
 use Rattle.request.specs.Request.{Field}
 use Rattle.request.specs.Inner.Places.{Placed, request_of, FieldIs}
 use Rattle.request.specs.declared.Places.{Places}

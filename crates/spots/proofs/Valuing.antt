@@ -14,13 +14,14 @@ use Rattle.pattern.specs.Inner.Answers.{meets_text}
 use Rattle.place.specs.Inner.Texts.{place_text}
 use Rattle.place.specs.declared.Place.{Place}
 use Rattle.place.proofs.Meeting.{place_within}
-use Rattle.cuts.specs.Inner.Parts.{part, over}
-use Rattle.cuts.proofs.Parts.{length_part}
-use Rattle.contents.specs.Inner.Places.{values_from, piece_at}
+use Rattle.cuts.specs.Inner.Parts.{over}
+use Rattle.contents.specs.Inner.Places.{values_from}
+use Rattle.contents.specs.Inner.Walks.{CutAt, NextCut}
 use Rattle.contents.specs.Values.{reduced, never_cut, values_of}
-use Rattle.contents.specs.declared.Piece.{Piece}
+use Rattle.contents.specs.declared.CutValue.{CutValue}
 use Rattle.contents.proofs.Laws.{reduced_front}
-use Rattle.contents.proofs.Values.{ValueAt, value_says, values_past, values_cut, values_whole}
+use Rattle.contents.proofs.Values.{values_cut, values_whole}
+use Rattle.contents.proofs.Walks.{cut_here, cut_none}
 use Rattle.spots.specs.Spots.{no_spot, bare_spot, first_value}
 use Rattle.spots.specs.Inner.Steps.{values_spot, item_spot, LowSpot}
 use Rattle.spots.specs.declared.Spot.{Spot}
@@ -68,39 +69,35 @@ pub seeking_first : (c v : List ℕ) → Seeking c v 0 0
 unfolding values_spot
 seeking_first c v = record { same = refl; inside = omega arith; few = omega arith }
 
-module _ (c v : List ℕ) (p value : ℕ) (k : Seeking c v p value) where
-  pub seeking_end : length v < p → (y : Spot) → y ≡ no_spot → y ≡ values_spot c (values_from v 0)
+module _ (c v : List ℕ) (p value : ℕ) (k : Seeking c v p value) (x : Option CutValue) (says : NextCut v p x) where
+  pub seeking_end : x ≡ None → (y : Spot) → y ≡ no_spot → y ≡ values_spot c (values_from v 0)
   unfolding first_value
-  seeking_end past y ey = ey ∙ sym (ap (first_value (place_text false c) value) (values_past v p past)) ∙ k.same
+  seeking_end e y ey = ey ∙ sym (ap (first_value (place_text false c) value) (cut_none v p x says e)) ∙ k.same
 
-  pub value_room : p ≤ length v → length v ≤ 65535 → value + 1 < 18446744073709551616
-  value_room h short = omega (arith, k.few)
+  module _ (r : CutValue) (e : x ≡ Some r) where
+    here : CutAt v p r
+    here = cut_here v p x says r e
 
-  module _ (x : Piece) (ex : x ≡ piece_at v p) (h : p ≤ length v) where
-    said : ValueAt v p x
-    said = subst (ValueAt v p) (sym ex) (value_says v p h)
+    pub value_room : length v ≤ 65535 → value + 1 < 18446744073709551616
+    value_room short = omega (arith, k.few, here.inside)
 
-    abbrev this : List ℕ
-    this = part v x.start x.end
-
-    module _ (at : Place) (ea : at ≡ place_text false c this) where
+    module _ (at : Place) (ea : at ≡ place_text false c r.bytes.now) where
       pub seeking_found : at.found ≡ true
           → ◌≡◌ {A = Spot} (record { found = true; value = value; start = at.start; size = at.size }) (values_spot c (values_from v 0))
-      seeking_found e =
-          value_here c this at ea e value (values_from v x.next) ∙ sym (ap (first_value (place_text false c) value) said.list) ∙ k.same
+      seeking_found f =
+          value_here c r.bytes.now at ea f value (values_from v r.next) ∙ sym (ap (first_value (place_text false c) value) here.list) ∙ k.same
 
       pub seeking_low : length v ≤ 65535 → LowSpot (record { found = true; value = value; start = at.start; size = at.size })
-      seeking_low short =
-          low_here c this at ea (omega (arith, length_part v x.start x.end said.order said.inside, said.inside)) value (omega (arith, k.few))
+      seeking_low short = low_here c r.bytes.now at ea (omega (arith, here.short)) value (omega (arith, k.few, here.inside))
 
-      pub seeking_next : at.found ≡ false → Seeking c v x.next (value + 1)
-      seeking_next e = record {
+      pub seeking_next : at.found ≡ false → Seeking c v r.next (value + 1)
+      seeking_next f = record {
         same =
-            ap (λ (n : ℕ). first_value (place_text false c) n (values_from v x.next)) (add-one value)
-            ∙ sym (value_later c this at ea e value (values_from v x.next))
-            ∙ sym (ap (first_value (place_text false c) value) said.list) ∙ k.same;
-        inside = said.next_inside;
-        few = omega (arith, k.few, said.on);
+            ap (λ (n : ℕ). first_value (place_text false c) n (values_from v r.next)) (add-one value)
+            ∙ sym (value_later c r.bytes.now at ea f value (values_from v r.next))
+            ∙ sym (ap (first_value (place_text false c) value) here.list) ∙ k.same;
+        inside = here.next_inside;
+        few = omega (arith, k.few, here.on);
       }
 
 -- ---- a value that is not cut

@@ -77,10 +77,9 @@ fn spot_in_pieces(v: &[u8], content: &Prepared<'_>) -> Spot
     ensures { (result ≡ values_spot content.now.bytes.now (values_from v.now 0)) × LowSpot result }
 {
     let mut value: usize = 0;
-    let mut p: usize = 0;
-    while p <= v.len() {
-        let x = contents::next_value(v, p);
-        let at = place::find(content, &v[x.start..x.end]);
+    let mut from = 0;
+    while let Some(cut) = contents::next_cut(v, from) {
+        let at = place::find(content, cut.bytes);
         if at.found {
             return Spot {
                 found: true,
@@ -89,7 +88,7 @@ fn spot_in_pieces(v: &[u8], content: &Prepared<'_>) -> Spot
                 size: at.size,
             };
         }
-        p = x.next;
+        from = cut.next;
         value += 1;
     }
     no_spot()

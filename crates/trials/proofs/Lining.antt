@@ -1,16 +1,16 @@
 -- The loop over the lines of a body.
 use mathlib.Core.Bool.{Bool, false, ◌||◌}
-use mathlib.Core.Path.{◌≡◌, sym, ap, subst}
+use mathlib.Core.Path.{◌≡◌, ap, subst}
 use mathlib.Core.List.{List, [], ◌∷◌}
-use Prim.Native.Nat.{ℕ, ◌+◌, ◌-◌, ◌≤◌, ◌<◌}
+use Prim.Native.Nat.{ℕ, ◌+◌, ◌≤◌, ◌<◌}
 use native.Mathlib.Omega.{arith}
 use lib.ListN.{length}
 use Rattle.contents.specs.Body.{Line, session_lines}
 use Rattle.contents.specs.Inner.Places.{session_from}
-use Rattle.contents.specs.Inner.Lines.{FieldLineAt, NextField}
+use Rattle.contents.specs.Inner.Walks.{FieldLineAt, NextField}
 use Rattle.contents.specs.declared.FieldLine.{FieldLine}
 use Rattle.contents.proofs.BodyLines.{session_start}
-use Rattle.contents.proofs.FieldLines.{line_here, line_none}
+use Rattle.contents.proofs.Walks.{line_here, line_none}
 use Rattle.std.specs.Prelude.{Option, Some, None}
 use Rattle.contents.proofs.Small.{session_lines_length}
 use Rattle.trials.specs.Inner.Trying.{item_row, line_row, all_rows, most_trials}

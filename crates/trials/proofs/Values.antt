@@ -1,19 +1,22 @@
 -- The loop over the values of a field, and the two ways to its values.
 use mathlib.Core.Bool.{Bool, true, false, ◌||◌, or-false}
-use mathlib.Core.Path.{◌≡◌, refl, sym, ap, ◌∙◌, subst}
+use Rattle.std.specs.Prelude.{Option, Some, None}
+use mathlib.Core.Path.{◌≡◌, refl, sym, ap, ◌∙◌}
 use mathlib.Core.List.{List}
-use Prim.Native.Nat.{ℕ, ◌+◌, ◌-◌, ◌≤◌, ◌<◌}
+use Prim.Native.Nat.{ℕ, ◌+◌, ◌-◌, ◌≤◌}
 use native.Mathlib.Omega.{arith}
 use lib.ListN.{length, take}
 use Rattle.octets.specs.Lists.{some_of, total}
 use Rattle.octets.proofs.Kept.{total_const}
 use Rattle.pattern.specs.Inner.Answers.{meets_text}
-use Rattle.cuts.specs.Inner.Parts.{part, over}
-use Rattle.contents.specs.Inner.Places.{values_from, piece_at}
+use Rattle.cuts.specs.Inner.Parts.{over}
+use Rattle.contents.specs.Inner.Places.{values_from}
+use Rattle.contents.specs.Inner.Walks.{CutAt, NextCut}
 use Rattle.contents.specs.Values.{reduced, never_cut, values_of}
-use Rattle.contents.specs.declared.Piece.{Piece}
+use Rattle.contents.specs.declared.CutValue.{CutValue}
 use Rattle.contents.proofs.Laws.{reduced_front}
-use Rattle.contents.proofs.Values.{ValueAt, value_says, values_past, values_cut, values_whole}
+use Rattle.contents.proofs.Values.{values_cut, values_whole}
+use Rattle.contents.proofs.Walks.{cut_here, cut_none}
 use Rattle.trials.specs.Inner.Trying.{values_row}
 use Rattle.trials.specs.declared.Verdict.{Verdict}
 use Rattle.trials.proofs.Sweep.{Swept, swept_first, swept_next, swept_end}
@@ -42,37 +45,25 @@ module _ (c v : List ℕ) where
   pub trying_first : Trying c v 0 false 0
   trying_first = record { sweep = swept_first (meets_text false c) one (values_from v 0); inside = omega arith; few = omega arith }
 
-  module _ (p : ℕ) (x : Piece) (ex : x ≡ piece_at v p) (h : p ≤ length v) where
-    said : ValueAt v p x
-    said = subst (ValueAt v p) (sym ex) (value_says v p h)
+  module _ (p : ℕ) (x : Option CutValue) (says : NextCut v p x) (fits : Bool) (trials : ℕ) (w : Trying c v p fits trials) where
+    pub trying_next : (r : CutValue) → x ≡ Some r → (m : Bool) → m ≡ meets_text false c r.bytes.now → Trying c v r.next (fits || m) (trials + 1)
+    trying_next r e m em =
+        let here : CutAt v p r = cut_here v p x says r e in
+        record {
+          sweep =
+              swept_next (meets_text false c) one (values_from v p) fits trials (swept_values c (values_from v 0)) w.sweep
+              r.bytes.now (values_from v r.next) m 1 here.list em refl;
+          inside = here.next_inside;
+          few = omega (arith, w.few, here.on);
+        }
 
-    pub value_order : x.start ≤ x.end
-    value_order = said.order
-
-    pub value_inside : x.end ≤ length v
-    value_inside = said.inside
-
-    pub value_less : length v + 1 - x.next < length v + 1 - p
-    value_less = omega (arith, said.on, said.next_inside)
-
-    pub trying_next : (fits m : Bool) (trials : ℕ) → Trying c v p fits trials → m ≡ meets_text false c (part v x.start x.end)
-        → Trying c v x.next (fits || m) (trials + 1)
-    trying_next fits m trials w em = record {
-      sweep =
-          swept_next (meets_text false c) one (values_from v p) fits trials (swept_values c (values_from v 0)) w.sweep
-          (part v x.start x.end) (values_from v x.next) m 1 said.list em refl;
-      inside = said.next_inside;
-      few = omega (arith, w.few, said.on);
-    }
-
-  module _ (p : ℕ) (fits : Bool) (trials : ℕ) (w : Trying c v p fits trials) where
-    pub trying_end : length v < p → ◌≡◌ {A = Verdict} (record { fits = fits; trials = trials }) (values_row c (values_from v 0))
-    trying_end h =
-        swept_end (meets_text false c) one (values_from v p) fits trials (swept_values c (values_from v 0)) w.sweep (values_past v p h)
+    pub trying_end : x ≡ None → ◌≡◌ {A = Verdict} (record { fits = fits; trials = trials }) (values_row c (values_from v 0))
+    trying_end e =
+        swept_end (meets_text false c) one (values_from v p) fits trials (swept_values c (values_from v 0)) w.sweep (cut_none v p x says e)
         ∙ values_swept c (values_from v 0)
 
-    pub trying_few : length v ≤ 65535 → trials ≤ 65536
-    trying_few h = omega (arith, w.few, w.inside)
+  pub trying_few : (p : ℕ) (fits : Bool) (trials : ℕ) → Trying c v p fits trials → length v ≤ 65535 → trials ≤ 65536
+  trying_few p fits trials w h = omega (arith, w.few, w.inside)
 
 -- ---- the values of a field, from its raw value reduced into the room
 

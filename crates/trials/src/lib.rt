@@ -32,11 +32,10 @@ fn try_pieces(v: &[u8], content: &Prepared<'_>) -> Verdict
 {
     let mut fits = false;
     let mut trials: u32 = 0;
-    let mut p: usize = 0;
-    while p <= v.len() {
-        let x = contents::next_value(v, p);
-        let m = content.meets(&v[x.start..x.end]);
-        p = x.next;
+    let mut at = 0;
+    while let Some(value) = contents::next_cut(v, at) {
+        let m = content.meets(value.bytes);
+        at = value.next;
         fits |= m;
         trials += 1;
     }

@@ -1,4 +1,4 @@
-use Rattle.contents.proofs.FieldLines.{line_less}
+use Rattle.contents.proofs.Walks.{line_less}
 use Rattle.spots.proofs.Showing.{lining_first, lining_end, lining_found, lining_low, lining_next, line_value_short, count_room, none_shown_low}
 use Rattle.spots.proofs.show_lines.Goals as goal
 

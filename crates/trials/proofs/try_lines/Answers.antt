@@ -1,5 +1,5 @@
 use borrow.Author.Rules.{rules}
-use Rattle.contents.proofs.FieldLines.{line_less}
+use Rattle.contents.proofs.Walks.{line_less}
 use Rattle.trials.proofs.Lining.{lining_first, lining_end, lining_few, lining_next, lining_fit}
 use Rattle.trials.proofs.try_lines.Goals as goal
 

@@ -1,6 +1,6 @@
 use mathlib.Core.Path.{refl}
 use borrow.Author.Rules.{rules}
-use Rattle.contents.proofs.FieldLines.{passed_none, passed_all, other_less, passed_other, type_room, type_inside, value_order, value_inside, field_line}
+use Rattle.contents.proofs.Walks.{passed_none, passed_all, other_less, passed_other, type_room, type_inside, value_order, value_inside, field_line}
 use Rattle.contents.proofs.body_lines.next_field_line.Goals as goal
 
 pub loop-next-init : goal.loop-next-init

@@ -1,6 +1,6 @@
 use Prim.Native.Nat.{◌+◌, ◌-◌}
 use lib.ListN.{length}
-use Rattle.contents.proofs.FieldLines.{Passed}
+use Rattle.contents.proofs.Walks.{Passed}
 use Rattle.contents.proofs.body_lines.next_field_line.Given as goal
 
 abbrev pub invariant-loop-next : goal.invariant-loop-next

@@ -1,5 +1,5 @@
 use borrow.Author.Rules.{rules}
-use Rattle.contents.proofs.FieldLines.{line_less}
+use Rattle.contents.proofs.Walks.{line_less}
 use Rattle.probes.proofs.PartsCounting.{lining_first, lining_end, lining_next, lining_room}
 use Rattle.probes.proofs.counts.count_lines.Goals as goal
 

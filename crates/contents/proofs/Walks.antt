@@ -1,4 +1,4 @@
--- The walk to the next line of a body that is a field.
+-- The walk to the next line of a body that is a field, and what walks over values and such lines go by.
 use mathlib.Core.Path.{◌≡◌, refl, sym, ap, ◌∙◌, subst}
 use mathlib.Core.List.{List, [], ◌∷◌}
 use Rattle.std.specs.Prelude.{Option, Some, None}
@@ -6,12 +6,14 @@ use Prim.Native.Nat.{ℕ, ◌+◌, ◌-◌, ◌≤◌, ◌<◌}
 use native.Mathlib.Omega.{arith}
 use lib.ListN.{length}
 use Rattle.cuts.specs.Inner.Parts.{part}
-use Rattle.contents.specs.Body.{Line}
-use Rattle.contents.specs.Inner.Places.{body_line, session_from}
+use Rattle.contents.specs.Inner.Places.{body_line, session_from, piece_at, values_from}
 use Rattle.contents.specs.declared.BodyLine.{BodyLine}
 use Rattle.contents.specs.declared.BodyLine.TheVariants.{Typed, Other, Done}
 use Rattle.contents.specs.declared.FieldLine.{FieldLine}
-use Rattle.contents.specs.Inner.Lines.{FieldLineAt, NextField}
+use Rattle.contents.specs.declared.Piece.{Piece}
+use Rattle.contents.specs.declared.CutValue.{CutValue}
+use Rattle.contents.proofs.Values.{ValueAt, value_says}
+use Rattle.contents.specs.Inner.Walks.{FieldLineAt, NextField, CutAt, NextCut}
 use Rattle.cuts.proofs.Parts.{length_part}
 use Rattle.contents.proofs.BodyLines.{TypedAt, OtherAt, LineSays, line_says}
 
@@ -74,3 +76,33 @@ line_less b p x says l e = let h = line_here b p x says l e in omega (arith, h.o
 
 pub line_none : (b : List ℕ) (p : ℕ) (x : Option FieldLine) → NextField b p x → x ≡ None → session_from b p ≡ []
 line_none b p x says e = subst (NextField b p) e says
+
+-- ---- the values
+
+module _ (v : List ℕ) (p : ℕ) (inside : p ≤ length v) (x : Piece) (ex : x ≡ piece_at v p) where
+  cut : ValueAt v p x
+  cut = subst (ValueAt v p) (sym ex) (value_says v p inside)
+
+  pub cut_order : x.start ≤ x.end
+  cut_order = cut.order
+
+  pub cut_inside : x.end ≤ length v
+  cut_inside = cut.inside
+
+  pub cut_value : (r : CutValue) → r.bytes.now ≡ part v x.start x.end → r.next ≡ x.next → CutAt v p r
+  cut_value r eb en = record {
+    list = cut.list ∙ (λ i. sym eb i ∷ values_from v (sym en i));
+    short = omega (arith, ap (λ (b : List ℕ). length b) eb, length_part v x.start x.end cut.order cut.inside, cut.inside);
+    inside = inside;
+    on = omega (arith, cut.on, en);
+    next_inside = omega (arith, cut.next_inside, en);
+  }
+
+pub cut_here : (v : List ℕ) (p : ℕ) (x : Option CutValue) → NextCut v p x → (r : CutValue) → x ≡ Some r → CutAt v p r
+cut_here v p x says r e = subst (NextCut v p) e says
+
+pub cut_less : (v : List ℕ) (p : ℕ) (x : Option CutValue) → NextCut v p x → (r : CutValue) → x ≡ Some r → length v + 1 - r.next < length v + 1 - p
+cut_less v p x says r e = let h = cut_here v p x says r e in omega (arith, h.on, h.next_inside)
+
+pub cut_none : (v : List ℕ) (p : ℕ) (x : Option CutValue) → NextCut v p x → x ≡ None → values_from v p ≡ []
+cut_none v p x says e = subst (NextCut v p) e says
