@@ -34,7 +34,7 @@
  * - Time grows with rows times request. Compiled for aarch64, a typical advance takes some 13 us, and the dearest that we found,
  *   2,048 rows of sixty starred elements over one value of 65,516 bytes, some 12 s. On x86-64 an earlier typical advance took 24 us.
  *
- * C99 and C++. Link with libifc.a: code for Linux on x86-64 that needs memcpy and memset alone. */
+ * C99 and C++. Link with libifc.a: code for Linux on x86-64 that needs at most memcpy and memset. */
 #ifndef IFC_H
 #define IFC_H
 

@@ -4,14 +4,14 @@ use mathlib.Core.Path.{◌≡◌, refl, sym, ap, ap₂, ◌∙◌, subst}
 use Prim.Native.Nat.{ℕ, ◌+◌, ◌-◌, ◌*◌, ◌/◌, ◌^◌, ◌≤◌, ◌<◌}
 use native.Mathlib.Omega.{arith}
 use mathlib.Core.List.{List, [], ◌∷◌}
-use lib.Dec.{T, leb, ltb, eqb, leb→le, ltb→lt}
+use lib.Dec.{eqb}
 use lib.Bits.{bit_and}
 use borrow.Author.Tests.{eq-eqb, ne_eqb, not-true, not-false}
 use Rattle.octets.specs.Lists.{pick, every, some_of, only}
 use Rattle.octets.specs.Bits.{bit}
 use Rattle.octets.proofs.Bits.{low_bit}
-use Rattle.octets.proofs.Tests.{left, right, T_of, not_or}
-use Rattle.fitting.specs.Fitting.{in_rows, cnf, dnf, part_fits}
+use Rattle.octets.proofs.Tests.{not_or}
+use Rattle.fitting.specs.Fitting.{in_rows, cnf, dnf}
 use Rattle.profile.proofs.Opened.{spaced_cons, spaced_none, spaced_start}
 use Rattle.cells.specs.Inner.Places.{word}
 use Rattle.entries.specs.Inner.Places.{member_numbers}
@@ -164,24 +164,6 @@ module _ (form mask first count : ℕ) (ms : List Member) where
 
 -- ---- one membership
 
--- a row that is one of so many from the first on (i)
-module _ (first count row : ℕ) (i : Bool) (ei : i ≡ in_rows first count row) (y : not i ≡ false) where
-  is_in : T (in_rows first count row)
-  is_in = T_of (sym ei ∙ not-false i y)
-
-  pub row_from : first ≤ row
-  row_from = leb→le first row (left (leb first row) (ltb row (first + count)) is_in)
-
-  row_to : row < first + count
-  row_to = ltb→lt row (first + count) (right (leb first row) (ltb row (first + count)) is_in)
-
-  -- its number among them is that of a bit of a mask
-  pub row_few : count ≤ 32 → row - first < 32
-  row_few few = omega (arith, row_from, row_to)
-
-  pub row_small : count ≤ 32 → row - first < 4294967296
-  row_small few = omega (arith, row_few few)
-
 -- a membership's row
 module _ (first count : ℕ) (s : List ℕ) (at : ℕ) (m : Numbers) (em : m ≡ member_numbers s at) (i : Bool) (ei : i ≡ in_rows first count m.row) where
   pub rows_read : i ≡ of_rows first count (member_from s at)
@@ -190,9 +172,6 @@ module _ (first count : ℕ) (s : List ℕ) (at : ℕ) (m : Numbers) (em : m ≡
 module _ (want : Bool) (mask first count g : ℕ) (s : List ℕ) (at : ℕ) (m : Numbers) (em : m ≡ member_numbers s at) (i : Bool) (ei : i ≡ in_rows first count m.row) where
   hits_by : (b : Bool) → i ≡ b → (b && (eqb (word s (at + 2)) g && hit want mask first (member_from s at))) ≡ hits want mask first count g (member_from s at)
   hits_by b e = ap (λ (b : Bool). b && (eqb (word s (at + 2)) g && hit want mask first (member_from s at))) (sym e ∙ rows_read first count s at m em i ei)
-
-  pub hits_out : not i ≡ true → false ≡ hits want mask first count g (member_from s at)
-  hits_out n = hits_by false (not-true i n)
 
   module _ (y : not i ≡ false) where
     is_hit : (eqb m.group g && hit want mask first (member_from s at)) ≡ hits want mask first count g (member_from s at)
@@ -206,16 +185,6 @@ module _ (want : Bool) (mask first count g : ℕ) (s : List ℕ) (at : ℕ) (m :
 
     pub hits_not : want ≡ false → (eqb m.group g && not (eqb (bit_and (mask / 2 ^ (m.row - first)) 1) 1)) ≡ hits want mask first count g (member_from s at)
     hits_not w = ap (λ (b : Bool). eqb m.group g && b) (ap not the_bit ∙ sym (ap (λ (b : Bool). pick b (marked mask first (member_from s at)) (not (marked mask first (member_from s at)))) w)) ∙ is_hit
-
-module _ (want : Bool) (mask first count : ℕ) (ms : List Member) (s : List ℕ) (at : ℕ) (m : Numbers) (em : m ≡ member_numbers s at) (i : Bool) (ei : i ≡ in_rows first count m.row) where
-  holds_by : (b : Bool) → i ≡ b → (not b || group_hit want mask first count (word s (at + 2)) ms) ≡ holds_at want mask first count ms (member_from s at)
-  holds_by b e = ap (λ (b : Bool). not b || group_hit want mask first count (word s (at + 2)) ms) (sym e ∙ rows_read first count s at m em i ei)
-
-  pub holds_out : not i ≡ true → true ≡ holds_at want mask first count ms (member_from s at)
-  holds_out n = holds_by false (not-true i n)
-
-  pub holds_in : (r : Bool) → not i ≡ false → r ≡ group_hit want mask first count m.group ms → r ≡ holds_at want mask first count ms (member_from s at)
-  holds_in r y e = e ∙ ap (λ (x : ℕ). group_hit want mask first count x ms) (group_read s at m em) ∙ holds_by true (not-false i y)
 
 -- ---- the two loops
 
@@ -258,14 +227,3 @@ module _ (want : Bool) (mask first count : ℕ) (s : List ℕ) (at n : ℕ) wher
 
     pub hold_end : n ≤ i → true ≡ groups_hold want mask first count (members_at s at n)
     hold_end k = all_end (holds_at want mask first count (members_at s at n)) s at n i (groups_hold want mask first count (members_at s at n)) h.so_far k
-
--- ---- the part
-
-pub part_zero : (part case : ℕ) → part ≡ 0 → leb case 1 ≡ part_fits part case
-part_zero part case e = sym (ap (λ (b : Bool). pick b (leb case 1) (pick (eqb part 1) (leb 2 case && leb case 3) true)) (eq-eqb part 0 e))
-
-pub part_one : (part case : ℕ) → (part ≡ 0 → ⊥) → part ≡ 1 → (leb 2 case && leb case 3) ≡ part_fits part case
-part_one part case n e = sym (rw (ne_eqb part 0 n, eq-eqb part 1 e))
-
-pub part_any : (part case : ℕ) → (part ≡ 0 → ⊥) → (part ≡ 1 → ⊥) → true ≡ part_fits part case
-part_any part case n e = sym (rw (ne_eqb part 0 n, ne_eqb part 1 e))

@@ -9,7 +9,7 @@ use Rattle.profile.specs.Image.{Member}
 use Rattle.profile.specs.Inner.Decoded.{member_from}
 use Rattle.fitting.specs.Fitting.{by_form}
 use Rattle.fitting.specs.Inner.Trigger.{members_at, of_rows, marked, fits_by, SameRows}
-use Rattle.fitting.proofs.Members.{members_cons, members_start}
+use Rattle.fitting.proofs.Members.{members_cons}
 
 module _ (p : Member → Bool) where
   only_snoc_by : (l : List Member) (a : Member) → p a ≡ false → only p (l ++ (a ∷ [])) ≡ only p l
@@ -25,9 +25,6 @@ members_snoc s (suc k) at =
     ∙ ap (λ (j : ℕ). member_from s at ∷ (members_at s (at + 4) k ++ (member_from s j ∷ []))) e
 
 module _ (first count : ℕ) (s : List ℕ) (at n : ℕ) where
-  pub front_first : SameRows first count s at n (at + 4 * 0) (n - 0)
-  front_first = record { same = ap (only (of_rows first count)) (members_start s at n) }
-
   pub front_next : (i : ℕ) (r : Bool) → SameRows first count s at n (at + 4 * i) (n - i) → i < n → r ≡ of_rows first count (member_from s (at + 4 * i)) → r ≡ false
       → SameRows first count s at n (at + 4 * (i + 1)) (n - (i + 1))
   front_next i r w h e f = record {

@@ -6,8 +6,7 @@ use Prim.Native.Nat.{ℕ, ◌+◌, ◌≤◌, ◌<◌}
 use mathlib.Core.List.{List}
 use lib.ListN.{length, get_or, drop}
 use lib.Seq.{drop-cons}
-use borrow.Author.Tests.{lt-ltb, le-ltb}
-use Rattle.scan.specs.Inner.Points.{outside, run, kind_of}
+use Rattle.scan.specs.Inner.Points.{outside, run}
 use Rattle.scan.specs.declared.scanner.Kind.{Kind}
 use Rattle.scan.specs.declared.scanner.Kind.TheVariants.{Blank, Digit, Text}
 use Rattle.cuts.proofs.Search.{Came, came_next, came_found, came_end}
@@ -44,12 +43,3 @@ module _ (p : ℕ → Bool) (s : List ℕ) (at : ℕ) where
 
   pub running_next : (i : ℕ) → Running i → i < length s → (t : Bool) → t ≡ p (get_or s i 0) → not t ≡ false → Running (i + 1)
   running_next i r h t e n = came_next (outside p) s (at + run p (drop at s)) i r h (test_at i h ∙ ap not (sym e) ∙ n)
-
-pub kind_gap : (q : ℕ) → q < 25 → Blank ≡ kind_of q
-kind_gap q h = rw (lt-ltb q 25 h)
-
-pub kind_number : (q : ℕ) → 25 ≤ q → q < 34 → Digit ≡ kind_of q
-kind_number q h k = rw (le-ltb q 25 h, lt-ltb q 34 k)
-
-pub kind_string : (q : ℕ) → 25 ≤ q → 34 ≤ q → Text ≡ kind_of q
-kind_string q h k = rw (le-ltb q 25 h, le-ltb q 34 k)
