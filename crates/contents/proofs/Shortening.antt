@@ -90,11 +90,11 @@ and_false true = refl
 and_false false = refl
 
 -- a letter in either case is no name of another length
-pub place_none : (w : List ℕ) → (length w ≡ 1 → ⊥) → 10 ≤ short_place w
+pub place_none : (w : List ℕ) → (length w ≡ 1 → ⊥) → 10 ≡ short_place w
 unfolding short_place
-place_none [] n = omega arith
+place_none [] n = refl
 place_none (b ∷ []) n = absurd (n refl)
-place_none (b ∷ c ∷ w) n = simp and_false (omega arith)
+place_none (b ∷ c ∷ w) n = sym (simp and_false)
 
 place_one : (w : List ℕ) (b : ℕ) → length w ≡ 1 → b ≡ lower (get_or w 0 0) → first (begins (b ∷ [])) (text "imelcfsktv") ≡ short_place w
 unfolding short_place first
@@ -104,6 +104,6 @@ place_one (c ∷ d ∷ w) b e eb = absurd (omega arith)
 
 -- what the library's `position` finds in the table
 pub place_found : (w : List ℕ) (b : ℕ) (r : Option ℕ) → length w ≡ 1 → b ≡ lower (get_or w 0 0) → IfSome r (λ k. k < 10) → first (begins (b ∷ [])) (text "imelcfsktv") ≡ unwrap_or r 10
-    → MatchOption r (10 ≤ short_place w) (λ k. (k < 10) × (k ≡ short_place w))
-place_found w b None e eb h f = omega (arith, f, place_one w b e eb)
+    → MatchOption r (10 ≡ short_place w) (λ k. (k < 10) × (k ≡ short_place w))
+place_found w b None e eb h f = sym f ∙ place_one w b e eb
 place_found w b (Some k) e eb h f = (h, sym f ∙ place_one w b e eb)

@@ -7,7 +7,7 @@ ghost use Rattle.contents.specs.Values.{never_cut};
 // Where a name stands in the table of ten short names, in either case; none where it is none of them. A name of more than one byte is
 // told by its length alone.
 fn short_place(written: &[u8]) -> Option<usize>
-    ensures { MatchOption result (10 ≤ short_place written.now) (λ k. (k < 10) × (k ≡ short_place written.now)) }
+    ensures { MatchOption result (10 ≡ short_place written.now) (λ k. (k < 10) × (k ≡ short_place written.now)) }
 {
     if written.len() != 1 {
         return None;

@@ -49,6 +49,8 @@ fn judge_image(s: &[u8], table: &mut [u16; 1024]) -> Result<Layout, Refusal>
 {
     let count = open_image(s)?;
     let rows_at = strings(s, count, table)?;
+    // Before the strings are judged: an image that ends here, or has too many rows, is refused without that.
+    let row_count = count_at(s, rows_at, 2048)?;
     let mut suits = [Suits::default(); 1024];
     judge_strings(s, table, count, &mut suits);
     let strings = StringTable {
@@ -57,7 +59,6 @@ fn judge_image(s: &[u8], table: &mut [u16; 1024]) -> Result<Layout, Refusal>
         suits: &suits,
         count,
     };
-    let row_count = count_at(s, rows_at, 2048)?;
     let members_at = rows(&strings, row_count, rows_at + 2)?;
     let member_count = count_at(s, members_at, 16384)?;
     let criteria_at = placed_members(s, row_count, member_count, members_at + 2, rows_at + 2)?;

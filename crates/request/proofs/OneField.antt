@@ -1,5 +1,5 @@
 -- One field of a readable request: where its name and its raw value stand in the bytes, and how long that value is at most.
-use mathlib.Core.Path.{◌≡◌, sym, subst}
+use mathlib.Core.Path.{◌≡◌, sym, ap, subst}
 use mathlib.Core.List.{List}
 use Prim.Native.Nat.{ℕ, ◌-◌, ◌≤◌, ◌<◌}
 use native.Mathlib.Omega.{arith}
@@ -41,4 +41,10 @@ module _ (s starts colons : List ℕ) (head fields : ℕ) (x : Fielded s starts 
 
   -- the field itself, by its bytes
   pub field_is : FieldIs s i (take (f.stop - f.name) (drop f.name s)) (take (f.end - f.value) (drop f.value s))
-  field_is = record { list = said.list; inside = value_room (length s) (omega arith); short = value_short }
+  field_is = record {
+    name_is = ap (λ (r : FieldParts). part s r.name r.stop) f_is;
+    value_is = ap (λ (r : FieldParts). part s r.value r.end) f_is;
+    list = said.list;
+    inside = value_room (length s) (omega arith);
+    short = value_short;
+  }

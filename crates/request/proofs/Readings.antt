@@ -94,8 +94,12 @@ module _ (s starts colons : List ℕ) (p : Places) (k : Placed s starts colons p
   rest_is : rest ≡ drop p.lines s
   rest_is = take_all (length s - p.lines) (drop p.lines s) (le_of_eq (length-drop p.lines s))
 
-  pub described_is : (session_lines rest ≡ request_lines (request_of s)) × (length rest ≤ 65535)
-  described_is = (ap session_lines rest_is ∙ lines_are, omega (arith, ap length rest_is, length-drop p.lines s, short))
+  pub described_is : (session_lines rest ≡ request_lines (request_of s)) × (length rest ≤ 65535) × (rest ≡ drop (lines_start (head_of s) (request_of s)) s)
+  described_is = (
+    ap session_lines rest_is ∙ lines_are,
+    omega (arith, ap length rest_is, length-drop p.lines s, short),
+    rest_is ∙ ap (λ (i : ℕ). drop i s) lines_place,
+  )
 
   -- ---- its fields
 

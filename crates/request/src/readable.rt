@@ -1,9 +1,9 @@
 // A request that was read, as the crates above are lent it.
-ghost use Rattle.std.specs.Prelude.{◌≡◌, ◌<◌, ◌≤◌, length};
+ghost use Rattle.std.specs.Prelude.{◌≡◌, ◌<◌, ◌≤◌, length, drop};
 ghost use Rattle.std.proofs.Props.{props};
 ghost use Rattle.contents.specs.Body.{session_lines};
 ghost use Rattle.request.specs.Request.{request_lines};
-ghost use Rattle.request.specs.Inner.Places.{head_of, request_of, starts_in, colons_in, Placed, FieldIs, field_parts};
+ghost use Rattle.request.specs.Inner.Places.{head_of, request_of, lines_start, starts_in, colons_in, Placed, FieldIs, field_parts};
 
 use crate::{FieldParts, FieldPlace, Places, parts_at};
 
@@ -38,7 +38,7 @@ impl<'a> ReadableRequest<'a> {
 
     // The bytes whose lines are the body's: none where the body is no session description.
     pub fn described(&self) -> &'a [u8]
-        ensures { (session_lines result.now ≡ request_lines (request_of self.now.bytes.now)) × (length result.now ≤ 65535) }
+        ensures { (session_lines result.now ≡ request_lines (request_of self.now.bytes.now)) × (length result.now ≤ 65535) × (result.now ≡ drop (lines_start (head_of self.now.bytes.now) (request_of self.now.bytes.now)) self.now.bytes.now) }
     {
         &self.bytes[self.places.lines..]
     }

@@ -3,7 +3,7 @@
 // data/cases and data/answers, and says how they are made.
 #![tactic(auto)]
 
-ghost use Rattle.std.specs.Prelude.{◌≡◌, ◌<◌, length};
+ghost use Rattle.std.specs.Prelude.{◌≡◌, ◌<◌, ◌≤◌, length, IfOk};
 
 use octets::byte_at;
 use rows::Given;
@@ -314,7 +314,9 @@ fn room_for_answers() -> [u8; 200000] {
 }
 
 // Reads a file until the room is full or the file ends: what stands at the start of the room.
-fn read<'a>(rt: &impl Files, name: &str, into: &'a mut [u8]) -> io::Result<&'a [u8]> {
+fn read<'a>(rt: &impl Files, name: &str, into: &'a mut [u8]) -> io::Result<&'a [u8]>
+    ensures { IfOk result (λ s. length s.now ≤ length into.old) }
+{
     let mut file = fs::open(rt, name)?;
     let mut done: usize = 0;
     while done < into.len() {

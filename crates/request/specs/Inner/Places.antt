@@ -3,7 +3,7 @@ use Rattle.std.proofs.Math.Option.{Option, none, some}
 use Rattle.std.specs.Prelude.{◌≡◌, List, [], ◌∷◌, ℕ, ◌+◌, ◌*◌, ◌≤◌, length, get_or, take, drop, map, Option as Answer, Some, None}
 use Rattle.octets.specs.Lists.{text, pick}
 use Rattle.cuts.specs.Cutting.{first_cut, cut_by, before_cut, first_line}
-use Rattle.cuts.specs.Inner.Parts.{over}
+use Rattle.cuts.specs.Inner.Parts.{over, part}
 use Rattle.cuts.specs.Trimming.{trim_right}
 use Rattle.contents.specs.Names.{name_as_matched}
 use Rattle.contents.specs.Values.{reduced, values_of}
@@ -142,8 +142,11 @@ unfoldable pub field_parts : List ℕ → ℕ → FieldParts
 unfolding field_lines line_starts colon_in trim_right
 field_parts h i = parts_of (get_or (line_starts (fields_start h) (field_lines h)) i 0) (get_or (field_lines h) i [])
 
--- Field i of a request that was read: its name as written, and its raw value, which is no longer than the request.
+-- Field i of a request that was read: its name as written, and its raw value, which is no longer than the request. They are the bytes
+-- between the places of its parts.
 pub record FieldIs (s : List ℕ) (i : ℕ) (name value : List ℕ) : Type 0 where
+  pub name_is : name ≡ part s (field_parts (head_of s) i).name (field_parts (head_of s) i).stop
+  pub value_is : value ≡ part s (field_parts (head_of s) i).value (field_parts (head_of s) i).end
   pub list : drop i (request_of s).fields
       ≡ record { name = name_as_matched name; values = values_of (name_as_matched name) (reduced value) } ∷ drop (i + 1) (request_of s).fields
   pub inside : length value ≤ length s
