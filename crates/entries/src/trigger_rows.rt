@@ -46,7 +46,9 @@ fn row_at(strings: &StringTable<'_>, at: usize) -> Result<usize, Refusal>
     Ok(at + 7)
 }
 
-// Section 2 after its count: where the rows end.
+// Section 2 after its count: where the rows end. A call: within the judgement of a whole image its loop would share the registers, and
+// takes a tenth more.
+#[inline(never)]
 pub fn rows(strings: &StringTable<'_>, count: usize, start: usize) -> Result<usize, Refusal>
     requires { (start ≤ 40000) × (count ≤ 2048) }
     ensures { let t = strings.now in field_out result ≡ ends (reading_rows t.image.now (texts t.image.now t.count t.table.now) count start) }

@@ -22,7 +22,7 @@ field_among (suc k) b p = field_or (field_among k b) (body_line b p)
 abbrev pub first_field : List ℕ → ℕ → BodyLine
 first_field b p = field_among (length b + 1 - p) b p
 
--- where the line behind starts
+-- where the line behind it starts; 0 where there is none
 abbrev pub behind : BodyLine → ℕ
 behind Done = 0
 behind (Other next) = next
