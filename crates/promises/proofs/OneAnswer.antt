@@ -2,10 +2,11 @@
 use mathlib.Core.Bool.{Bool}
 use mathlib.Core.Path.{◌≡◌, refl, sym, ap, ap₂, ◌∙◌}
 use Prim.Native.Nat.{ℕ}
-use mathlib.Core.List.{List}
+use mathlib.Core.List.{List, [], ◌∷◌}
 use native.Mathlib.Omega.{arith}
 use lib.Dec.{eqb}
-use Rattle.std.specs.Prelude.{Option as Found, Result, Ok, Err}
+use lib.ListN.{get_or}
+use Rattle.std.specs.Prelude.{Option as Found, Some, None, Result, Ok, Err}
 use Rattle.octets.specs.Lists.{pick}
 use Rattle.cells.specs.Inner.Answers.{number_of}
 use Rattle.cells.specs.declared.Fault.{Fault}
@@ -27,7 +28,12 @@ use Rattle.session.specs.Session.{Opens, Reports}
 use Rattle.session.specs.declared.Session.{Session}
 use Rattle.session.specs.declared.Opened.{Opened}
 use Rattle.session.specs.declared.Reported.{Reported}
-use Rattle.request.specs.Inner.Places.{Read}
+use Rattle.contents.specs.Body.{Line}
+use Rattle.contents.specs.Inner.Places.{values_from, session_from}
+use Rattle.contents.specs.Inner.Walks.{NextCut, NextField}
+use Rattle.contents.specs.declared.CutValue.{CutValue}
+use Rattle.contents.specs.declared.FieldLine.{FieldLine}
+use Rattle.request.specs.Inner.Places.{Read, FieldIs}
 use Rattle.request.specs.Request.{Request}
 use Rattle.request.specs.declared.Places.{Places}
 use Rattle.rows.specs.declared.Given.{Given}
@@ -107,6 +113,44 @@ one_judgement s (Ok a) (Ok b) h k =
 one_judgement s (Ok a) (Err f) h k = not_both (judge s) (stands_as s a h).accepts (refused_as s f k)
 one_judgement s (Err e) (Ok b) h k = not_both (judge s) (stands_as s b k).accepts (refused_as s e h)
 one_judgement s (Err e) (Err f) h k = one_refusal e f (sym (refused_as s e h) ∙ refused_as s f k)
+
+-- the same value and the same next place, or none in both
+abbrev pub AlikeCut : Found CutValue → Found CutValue → Type 0
+AlikeCut (Some x) (Some y) = (x.bytes.now ≡ y.bytes.now) × (x.next ≡ y.next)
+AlikeCut (Some x) None = ⊥
+AlikeCut None (Some y) = ⊥
+AlikeCut None None = Unit {0}
+
+filled : {A : Type 0} (l : List A) {x : A} {xs : List A} → l ≡ x ∷ xs → l ≡ [] → ⊥
+filled [] e f = let z : ◌≡◌ {A = ℕ} 0 1 = cc in omega arith
+filled (y ∷ l) e f = let z : ◌≡◌ {A = ℕ} 0 1 = cc in omega arith
+
+pub one_cut : (v : List ℕ) (p : ℕ) (a b : Found CutValue) → NextCut v p a → NextCut v p b → AlikeCut a b
+one_cut v p (Some x) (Some y) h k = (ap (λ (l : List (List ℕ)). get_or l 0 []) (sym h.list ∙ k.list), h.next_is ∙ sym k.next_is)
+one_cut v p (Some x) None h k = filled (values_from v p) h.list k
+one_cut v p None (Some y) h k = filled (values_from v p) k.list h
+one_cut v p None None h k = tt
+
+-- the same type and value of a line and the same next place, or none in both
+abbrev pub AlikeLine : Found FieldLine → Found FieldLine → Type 0
+AlikeLine (Some x) (Some y) = (x.kind.now ≡ y.kind.now) × (x.value.now ≡ y.value.now) × (x.next ≡ y.next)
+AlikeLine (Some x) None = ⊥
+AlikeLine None (Some y) = ⊥
+AlikeLine None None = Unit {0}
+
+no_line : Line
+no_line = record { type = []; value = [] }
+
+pub one_line : (b : List ℕ) (p : ℕ) (x y : Found FieldLine) → NextField b p x → NextField b p y → AlikeLine x y
+one_line b p (Some x) (Some y) h k =
+    let e = sym h.list ∙ k.list in
+    (ap (λ (l : List Line). (get_or l 0 no_line).type) e, ap (λ (l : List Line). (get_or l 0 no_line).value) e, h.next_is ∙ sym k.next_is)
+one_line b p (Some x) None h k = filled (session_from b p) h.list k
+one_line b p None (Some y) h k = filled (session_from b p) k.list h
+one_line b p None None h k = tt
+
+pub one_field : {s : List ℕ} {i : ℕ} {name name' value value' : List ℕ} → FieldIs s i name value → FieldIs s i name' value' → (name ≡ name') × (value ≡ value')
+one_field h k = (h.name_is ∙ sym k.name_is, h.value_is ∙ sym k.value_is)
 
 pub one_reading : {s starts colons starts' starts'' colons' colons'' : List ℕ} {a b : Found Places} → Read s starts colons starts' colons' a → Read s starts colons starts'' colons'' b
     → (a ≡ b) × (starts' ≡ starts'') × (colons' ≡ colons'')
